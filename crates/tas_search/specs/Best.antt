@@ -1,8 +1,7 @@
 -- Which sequence of a space is the best, and what else a search answers. Sequences are lists here; there are no layers.
 use Rattle.std.specs.Prelude.{◌≡◌, ℕ, ◌+◌, ◌<◌, ◌≤◌, List, [], ◌∷◌, length, Bool, true, Option, Some, None}
 use Rattle.vcs_machine.specs.Machine.{Machine}
-use Rattle.tas_search.specs.declared.searching.Found.{Found}
-use Rattle.tas_search.specs.declared.searching.Found.TheVariants.{Best, Nothing, Stopped}
+use Rattle.tas_search.specs.Outcome.{Outcome, best, nothing, stopped}
 use Rattle.tas_search.specs.Space.{SpaceContent, AreChoices, reached, rank}
 
 -- there is a machine, and it passes the test
@@ -53,7 +52,7 @@ FitsBelow s states n = (k : ℕ) → 1 ≤ k → k < n → ReachMoreThan s k sta
 
 -- the answer to a search for the shortest sequence of at most `most` choices, which keeps at most `states` machines of one length: the shortest
 -- one; that there is none; or the least number of choices that reach more machines than that, where no shorter sequence meets the goal
-abbrev pub IsReachAnswer : {Z : Type 0} → SpaceContent → (Machine → Bool) → ℕ → ℕ → Found Z → Type 0
-IsReachAnswer s goal most states (Best ks) = IsShortest s goal ks.items × (length ks.items ≤ most) × FitsBelow s states (length ks.items + 1)
-IsReachAnswer s goal most states Nothing = NeedsAtLeast s goal (most + 1) × FitsBelow s states (most + 1)
-IsReachAnswer s goal most states (Stopped k) = NeedsAtLeast s goal k × FitsBelow s states k × (1 ≤ k) × (k ≤ most) × ReachMoreThan s k states
+abbrev pub IsReachAnswer : SpaceContent → (Machine → Bool) → ℕ → ℕ → Outcome → Type 0
+IsReachAnswer s goal most states (best ks) = IsShortest s goal ks × (length ks ≤ most) × FitsBelow s states (length ks + 1)
+IsReachAnswer s goal most states nothing = NeedsAtLeast s goal (most + 1) × FitsBelow s states (most + 1)
+IsReachAnswer s goal most states (stopped k) = NeedsAtLeast s goal k × FitsBelow s states k × (1 ≤ k) × (k ≤ most) × ReachMoreThan s k states

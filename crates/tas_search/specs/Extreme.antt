@@ -3,8 +3,7 @@ use Rattle.std.specs.Prelude.{◌≡◌, ℕ, ◌+◌, ◌≤◌, ℤ, ◌≤ℤ
 use Rattle.vcs_machine.specs.Machine.{Machine}
 use Rattle.tas_search.specs.declared.extremes.Aim.{Aim}
 use Rattle.tas_search.specs.declared.extremes.Aim.TheVariants.{Most, Least}
-use Rattle.tas_search.specs.declared.searching.Found.{Found}
-use Rattle.tas_search.specs.declared.searching.Found.TheVariants.{Best, Nothing, Stopped}
+use Rattle.tas_search.specs.Outcome.{Outcome, best, nothing, stopped}
 use Rattle.tas_search.specs.Space.{SpaceContent, AreChoices, reached, rank}
 use Rattle.tas_search.specs.Best.{FitsBelow, ReachMoreThan}
 
@@ -24,7 +23,7 @@ pub record IsExtreme (s : SpaceContent) (aim : Aim) (value : Machine → ℤ) (n
 
 -- the answer to a search for the best sequence of n choices, which keeps at most `states` machines of one length: it; that none of them
 -- reaches a machine; or the least number of choices that reach more machines than that
-abbrev pub IsExtremeAnswer : {Z : Type 0} → SpaceContent → Aim → (Machine → ℤ) → ℕ → ℕ → Found Z → Type 0
-IsExtremeAnswer s aim value n states (Best ks) = IsExtreme s aim value n ks.items × FitsBelow s states (n + 1)
-IsExtremeAnswer s aim value n states Nothing = ((ks : List ℕ) → AreChoices s ks → length ks ≡ n → reached s ks ≡ None) × FitsBelow s states (n + 1)
-IsExtremeAnswer s aim value n states (Stopped k) = FitsBelow s states k × (1 ≤ k) × (k ≤ n) × ReachMoreThan s k states
+abbrev pub IsExtremeAnswer : SpaceContent → Aim → (Machine → ℤ) → ℕ → ℕ → Outcome → Type 0
+IsExtremeAnswer s aim value n states (best ks) = IsExtreme s aim value n ks × FitsBelow s states (n + 1)
+IsExtremeAnswer s aim value n states nothing = ((ks : List ℕ) → AreChoices s ks → length ks ≡ n → reached s ks ≡ None) × FitsBelow s states (n + 1)
+IsExtremeAnswer s aim value n states (stopped k) = FitsBelow s states k × (1 ≤ k) × (k ≤ n) × ReachMoreThan s k states

@@ -7,6 +7,7 @@ pub mod GoalText
 pub mod NamesFile
 pub mod ChoicesFile
 pub mod StickChoices
+pub mod Outcome
 pub mod GoalAnswer
 pub mod AnswerChanges
 pub mod MovieSearch

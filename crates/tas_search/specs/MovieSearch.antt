@@ -9,8 +9,7 @@ use Rattle.tas_search.specs.declared.goal.GoalKind.{GoalKind}
 use Rattle.tas_search.specs.declared.movie_search.SearchRange.{SearchRange}
 use Rattle.tas_search.specs.declared.movie_search.SearchFault.{SearchFault}
 use Rattle.tas_search.specs.declared.movie_search.SearchFault.TheVariants.{Short, Hold, Long, Memory}
-use Rattle.tas_search.specs.declared.searching.Found.{Found}
-use Rattle.tas_search.specs.declared.searching.Found.TheVariants.{Best, Nothing, Stopped}
+use Rattle.tas_search.specs.Outcome.{Outcome, best, nothing, stopped}
 use Rattle.tas_search.specs.Space.{SpaceContent}
 use Rattle.tas_search.specs.GoalAnswer.{IsGoalAnswer}
 use Rattle.tas_search.specs.AnswerChanges.{answer_changes, Writes}
@@ -20,19 +19,19 @@ abbrev pub space_of : MovieContent → List Input → SearchRange → SpaceConte
 space_of movie choices range = record { cart = movie.cart; start = after movie.cart (take range.from movie.inputs); choices = choices; hold = range.hold }
 
 -- the changes are those that write the sequence that was found into the movie; where none was found there are none
-abbrev pub WritesFound : {Z : Type 0} → MovieContent → SearchRange → SpaceContent → Found Z → List Change → Type 0
-WritesFound movie range s (Best ks) changes = (changes ≡ answer_changes (length movie.inputs) range.from s.choices s.hold ks.items) × Writes movie range.from s ks.items
-WritesFound movie range s Nothing changes = changes ≡ []
-WritesFound movie range s (Stopped k) changes = changes ≡ []
+abbrev pub WritesFound : MovieContent → SearchRange → SpaceContent → Outcome → List Change → Type 0
+WritesFound movie range s (best ks) changes = (changes ≡ answer_changes (length movie.inputs) range.from s.choices s.hold ks) × Writes movie range.from s ks
+WritesFound movie range s nothing changes = changes ≡ []
+WritesFound movie range s (stopped k) changes = changes ≡ []
 
 -- the space begins within the movie, each choice is held for a frame or more, and the movie can have the frames of the longest sequences
 abbrev pub CanSearch : MovieContent → SearchRange → Type 0
 CanSearch movie range = (range.from ≤ length movie.inputs) × (0 < range.hold) × (range.from + range.count * range.hold ≤ most_inputs)
 
 -- the answer: what the definitions say of the whole space, and the changes that write it into the movie
-abbrev pub IsMovieAnswer : {Z : Type 0} → MovieContent → List Input → GoalKind → Expression → SearchRange → Found Z → List Change → Type 0
-IsMovieAnswer movie choices kind e range found changes =
-    CanSearch movie range × IsGoalAnswer (space_of movie choices range) kind e range.count range.states found × WritesFound movie range (space_of movie choices range) found changes
+abbrev pub IsMovieAnswer : MovieContent → List Input → GoalKind → Expression → SearchRange → Outcome → List Change → Type 0
+IsMovieAnswer movie choices kind e range outcome changes =
+    CanSearch movie range × IsGoalAnswer (space_of movie choices range) kind e range.count range.states outcome × WritesFound movie range (space_of movie choices range) outcome changes
 
 -- why there is none: the movie ends before the space begins; or a choice is held for no frame; or the movie would be too long with the longest
 -- sequences; or, where it is none of these, memory is

@@ -3,6 +3,7 @@
 ghost use Rattle.std.specs.Prelude.{◌≡◌, IfOk, MatchOption, length};
 ghost use Rattle.tas_search.specs.Extreme.{IsExtremeAnswer};
 ghost use Rattle.tas_search.specs.Goal.{value_in};
+ghost use Rattle.tas_search.specs.Outcome.{outcome_of};
 ghost use Rattle.tas_search.specs.Inside.Extremes.{IsExtremeAt, beats};
 
 use crate::arrival::Arrival;
@@ -68,8 +69,8 @@ pub fn find_extreme<M: Measure, A: Allocator + Copy, C: Allocator>(
     // its end. `Stopped`: the least number of choices, `count` at most, whose sequences reach more than `states`
     // different machines; the other two come only where there is no such number.
     // Refused: later_of_equal_values_wins, last_of_equally_low_values_wins.
-    ensures { IfOk result
-        (IsExtremeAnswer space.now aim (value_in (M.value measure.now)) count states) }
+    ensures { IfOk result (λ found. IsExtremeAnswer space.now aim (value_in (M.value measure.now))
+        count states (outcome_of found)) }
 {
     let mut frontier = first_frontier(alloc, space)?;
     for depth in 0..count {

@@ -2,6 +2,7 @@
 
 ghost use Rattle.std.specs.Prelude.{IfOk};
 ghost use Rattle.tas_search.specs.GoalAnswer.{IsGoalAnswer};
+ghost use Rattle.tas_search.specs.Outcome.{outcome_of};
 
 use crate::extremes::{Aim, find_extreme};
 use crate::goal::{Goal, GoalKind};
@@ -22,7 +23,8 @@ pub fn find_goal<A: Allocator + Copy, C: Allocator>(
     states: usize,
 ) -> Result<Found<A>, AllocError>
     // Refused: most_searches_for_the_least.
-    ensures { IfOk result (IsGoalAnswer space.now goal.now.kind goal.now.formula count states) }
+    ensures { IfOk result (λ found. IsGoalAnswer space.now goal.now.kind goal.now.formula count states
+        (outcome_of found)) }
 {
     match goal.kind {
         GoalKind::Reach => find_shortest(alloc, space, &goal.formula, count, states),

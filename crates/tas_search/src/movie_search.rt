@@ -4,6 +4,7 @@ ghost use Rattle.std.specs.Prelude.{◌≡◌, ◌+◌, ◌*◌, ◌≤◌, ◌�
 ghost use Rattle.tas_movie.specs.Content.{most_inputs};
 ghost use Rattle.tas_search.specs.declared.movie_search.SearchFault.TheVariants.{Memory as Refused};
 ghost use Rattle.tas_search.specs.MovieSearch.{IsMovieAnswer, IsSearchFault};
+ghost use Rattle.tas_search.specs.Outcome.{outcome_of};
 ghost use Rattle.tas_search.specs.Inside.FoundChanges.{FitsMovie, AreChangesOf};
 
 use crate::changes::{answer_changes, changes_write_the_sequence};
@@ -69,8 +70,8 @@ fn found_changes<A: Allocator, C: Allocator>(
     from: usize,
     found: &Found<A>,
 ) -> Result<Vec<Change, A>, AllocError>
-    requires fits { FitsMovie from space.now.hold found.now }
-    ensures { IfOk result (λ changes. AreChangesOf len from space.now found.now changes.items) }
+    requires fits { FitsMovie from space.now.hold (outcome_of found.now) }
+    ensures { IfOk result (λ changes. AreChangesOf len from space.now (outcome_of found.now) changes.items) }
 {
     match found {
         Found::Best(numbers) => answer_changes(alloc, space, len, from, numbers.as_slice()),
@@ -99,7 +100,7 @@ pub fn search_movie<A: Allocator + Copy>(
     // start_after_the_end_is_searched, hold_of_no_frame_is_searched, short_movie_is_reported_by_its_start,
     // long_movie_is_reported_as_memory.
     ensures found { IfOk result (λ r. IsMovieAnswer movie.now choices.now goal.now.kind
-        goal.now.formula range r.0 r.1.items) }
+        goal.now.formula range (outcome_of r.0) r.1.items) }
     ensures fault { IfErr result (IsSearchFault movie.now range) }
 {
     if movie.len() < range.from {

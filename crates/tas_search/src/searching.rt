@@ -4,6 +4,7 @@ ghost use Rattle.std.specs.Prelude.{◌≡◌, IfOk};
 ghost use Rattle.std.specs.List.{position};
 ghost use Rattle.tas_search.specs.Best.{IsReachAnswer};
 ghost use Rattle.tas_search.specs.Goal.{holds_of};
+ghost use Rattle.tas_search.specs.Outcome.{outcome_of};
 
 use crate::arrival::Arrival;
 use crate::frontier::{advance, first_frontier};
@@ -50,7 +51,8 @@ pub fn find_shortest<M: Measure, A: Allocator + Copy, C: Allocator>(
     // choices up to the answer's, or up to `most`, reaches more.
     // Refused: goal_is_not_looked_at_before_the_first_choice, stop_is_reported_as_none, stop_names_the_layer_before,
     // layer_over_the_limit_is_kept, search_ends_one_choice_early.
-    ensures { IfOk result (IsReachAnswer space.now (holds_of (M.value goal.now)) most states) }
+    ensures { IfOk result (λ found. IsReachAnswer space.now (holds_of (M.value goal.now)) most states
+        (outcome_of found)) }
 {
     if holds(goal, &space.start()) {
         return Ok(Found::Best(Vec::new(alloc)));

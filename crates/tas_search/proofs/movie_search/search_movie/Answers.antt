@@ -1,6 +1,7 @@
 use Rattle.std.proofs.Common.{◌≡◌, ℕ, ◌+◌, ◌*◌, ◌≤◌, length, refl, ap, subst, ◌∙◌, arith}
 use Rattle.tas_movie.specs.Content.{most_inputs}
 use Rattle.tas_search.specs.Space.{SpaceContent}
+use Rattle.tas_search.specs.Outcome.{outcome_of}
 use Rattle.tas_search.specs.GoalAnswer.{IsGoalAnswer}
 use Rattle.tas_search.specs.MovieSearch.{space_of}
 use Rattle.tas_search.specs.Inside.FoundChanges.{AreChangesOf}
@@ -12,7 +13,7 @@ found_changes-requires g c =
     let range = c.args.range in
     let hold : c.new-space.result.hold ≡ range.hold = ap (λ (s : SpaceContent). s.hold) c.new-space.ensures in
     let le : range.from + range.count * range.hold ≤ most_inputs = c.fits.ensures.0 c.if-not-fits.false in
-    record { fits = found_fits c.new-space.result c.args.goal.now.kind c.args.goal.now.formula range.count range.states range.from c.in_ok-found.found (rw hold le) c.in_ok-found.ensures }
+    record { fits = found_fits c.new-space.result c.args.goal.now.kind c.args.goal.now.formula range.count range.states range.from (outcome_of c.in_ok-found.found) (rw hold le) c.in_ok-found.ensures }
 
 pub returns-clause-found : goal.returns-clause-found
 returns-clause-found g c =
@@ -21,7 +22,7 @@ returns-clause-found g c =
     let range = c.args.range in
     let kind = c.args.goal.now.kind in
     let formula = c.args.goal.now.formula in
-    let found = c.in_ok-found.found in
+    let found = outcome_of c.in_ok-found.found in
     let space : c.new-space.result ≡ space_of movie choices range = c.new-space.ensures ∙ rw (c.cart.ensures, c.state_at-start.ensures) refl in
     let le : range.from + range.count * range.hold ≤ most_inputs = c.fits.ensures.0 c.if-not-fits.false in
     let answer : IsGoalAnswer (space_of movie choices range) kind formula range.count range.states found =
