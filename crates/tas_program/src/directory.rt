@@ -1,8 +1,9 @@
 //! Files that are made, renamed and removed by their names.
 //!
 //! Contracts see a directory's files as a function from names to bytes, and say what comes of each name. The system's
-//! directory shows nothing of itself. So they also see which calls succeeded (`FileSteps`): a file that is replaced
-//! went through each of the three.
+//! directory shows nothing of itself. Contracts also see which calls succeeded, as a directory states it (`FileSteps`): a
+//! file that is replaced went through each of the three. The system's states nothing there, either; but the code is the
+//! same for each directory, and can't tell one from the other.
 
 ghost use Rattle.std.specs.Prelude.{◌≡◌, ℕ, List, Option, None, Some, OnOk, OnErr, IfOk, option_map};
 ghost use Rattle.tas_program.specs.Saving.{Files, FileSteps, IsEmptyIn, WasAbsent, made, moved, put, unknown_steps};

@@ -402,7 +402,7 @@ pub fn carry_out<
     // The program ends with 0 exactly where the task is done, or the text that was asked for is written whole, with 1
     // after a fault, and with 2, nothing read and nothing written to standard output, where a word is at fault or the
     // words aren't understood. Where the output replaces a file, the end is 0 only where the engine is done and the file was
-    // given the output, by calls of this folder that succeeded.
+    // given the output, as the folder states its steps.
     // Refused: fault_ends_with_status_0, program_saves_under_another_name, word_at_fault_ends_with_status_1*, misuse_ends_with_status_1*,
     // misuse_is_shown_as_help*.
     ensures { CarriesOut F.steps

@@ -105,7 +105,7 @@ pub fn save_task<
 ) -> Result<(), TaskFault>
     // What is wrong with a word comes first, as `check_output` says. A good end comes only after the engine is done and a
     // new file was made beside this one, all of the output was written to that and brought to the disk, and it took this
-    // one's name: each by a call of this folder that succeeded.
+    // one's name: each by a call that succeeded, as the folder states its steps. The system's states none.
     // Refused: nothing_is_saved, output_is_saved_under_another_name.
     ensures { IsSaveRun F.steps
         (files_by (F.bytes_of folder.now) (F.held_by folder.now) (F.shown folder.now))

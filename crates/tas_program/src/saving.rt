@@ -148,9 +148,9 @@ pub fn save<A: Allocator + Copy, D: Directory>(
     bytes: &[u8],
 ) -> Result<(), SaveFault>
     // A file that is replaced has the new bytes after a good end, and its old ones after any fault; no other file is
-    // changed, and the new file beside it is gone, in a directory whose files are known. In any directory a good end
-    // comes only after a new file was made beside it, the bytes were written to that and brought to the disk, and it took
-    // the file's name.
+    // changed, and the new file beside it is gone, in a directory whose files are known. A good end comes only after a new
+    // file was made beside it, the bytes were written to that and brought to the disk, and it took the file's name, as the
+    // directory states its steps.
     // Refused: file_is_renamed_before_all_is_written, refused_write_is_a_good_end, new_file_is_left,
     // new_file_is_left_after_a_failed_rename.
     ensures { SaveEnds D.steps file.now bytes.now (D.files directory.old) (D.files directory.new) result }
