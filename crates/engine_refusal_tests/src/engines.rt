@@ -296,9 +296,9 @@ pub fn run<T: Wait + Threads + Sync, A: Allocator + Copy + Send + Sync, W: Write
         Engine::Script => script_run(rt, alloc, first, output),
         Engine::MovieScript => movie_script_run(rt, alloc, first, second, third, output),
         Engine::Export(workers) => export_run(rt, alloc, 1, 3, workers, first, second, output),
-        Engine::Talk => talk_run(rt, alloc, first, output),
-        Engine::CartTalk => cart_talk_run(rt, alloc, first, second, output),
-        Engine::MovieTalk => movie_talk_run(rt, alloc, first, second, third, output),
+        Engine::Talk => talk_run(rt, alloc, first, output).end,
+        Engine::CartTalk => cart_talk_run(rt, alloc, first, second, output).end,
+        Engine::MovieTalk => movie_talk_run(rt, alloc, first, second, third, output).end,
     };
     (end, [one.reads, two.reads, three.reads, four.reads])
 }

@@ -48,7 +48,7 @@ pub struct Talk {
 pub fn answers<T: Wait + Abort>(rt: &T, alloc: Global, lines: &[u8]) -> Vec<u8> {
     let mut input = lines;
     let mut output = Vec::new(alloc);
-    let end = talk_run(rt, alloc, &mut input, &mut output);
+    let end = talk_run(rt, alloc, &mut input, &mut output).end;
     check_same(rt, "end", end, Ok(()));
     output
 }
@@ -123,7 +123,7 @@ fn refused_talks<T: Wait + Abort>(rt: &T, alloc: Global, lines: &[u8]) -> Vec<Ta
         let heap = Refusing::new(alloc, number);
         let mut input = lines;
         let mut answers = Vec::new(alloc);
-        let end = talk_run(rt, &heap, &mut input, &mut answers);
+        let end = talk_run(rt, &heap, &mut input, &mut answers).end;
         if !heap.has_refused() {
             break;
         }

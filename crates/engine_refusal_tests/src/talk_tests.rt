@@ -94,7 +94,7 @@ fn answers_refused<T: Wait + Abort>(rt: &T, alloc: Global, lines: &[u8]) -> Vec<
         let heap = Refusing::new(alloc, number);
         let mut input = lines;
         let mut output = Vec::new(alloc);
-        let end = talk_run(rt, &heap, &mut input, &mut output);
+        let end = talk_run(rt, &heap, &mut input, &mut output).end;
         if !heap.has_refused() {
             break;
         }

@@ -3,3 +3,4 @@ pub mod FileWordLemmas
 pub mod PairLemmas
 pub mod ProgramLemmas
 pub mod SavingLemmas
+pub mod TalkLemmas

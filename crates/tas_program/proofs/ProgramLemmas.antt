@@ -1,11 +1,10 @@
 -- How invocations end.
 use Rattle.std.proofs.Common.{◌≡◌, ◌<◌, ℕ, List, [], ◌∷◌, ◌++◌, length, take, map, get_or, Option, None, Some, Result, Ok, Err, inl, inr, refl, sym, ap, subst, ◌∙◌, ◌+◌, ◌⊎◌, arith}
 use Rattle.std.proofs.lemmas.List.{map-append, take_more}
-use Rattle.std.specs.Io.KnownBytes.{Consumes}
 use Rattle.std.proofs.KnownBytes.{Keeps-refl}
 use Rattle.tas_engines.specs.declared.fault.ReadFault.TheVariants.{Failed, Memory}
 use Rattle.tas_engines.specs.declared.fault.ToolFault.TheVariants.{Read}
-use Rattle.tas_engines.specs.Commands.{Answers, IsRun, IsRunOn, in_order}
+use Rattle.tas_engines.specs.Commands.{Answers, IsRun, IsRunOn}
 use Rattle.tas_engines.specs.Input.{StopsReadingAll}
 use Rattle.tas_engines.specs.declared.fault.ToolFault.{ToolFault}
 use Rattle.std.specs.Prelude.{String}

@@ -10,7 +10,7 @@ use Rattle.tas_words.specs.declared.task.Start.{Start}
 use Rattle.tas_words.specs.declared.task.Start.TheVariants.{Blank, Cart, Movie}
 use Rattle.tas_program.specs.declared.folder.OrdinaryFile.{OrdinaryFile}
 use Rattle.tas_program.specs.declared.file_words.FileWord.{FileWord}
-use Rattle.tas_program.specs.declared.file_words.FileWord.TheVariants.{Cart as CartWord, Movie as MovieWord, Script, Other, Old, File as FileOut, In, Out, Input, Output}
+use Rattle.tas_program.specs.declared.file_words.FileWord.TheVariants.{Cart as CartWord, Movie as MovieWord, In, Out, Input, Output}
 use Rattle.tas_program.specs.declared.file_words.SeenWord.{SeenWord}
 use Rattle.tas_program.specs.declared.file_words.Permit.{Permit}
 use Rattle.tas_program.specs.declared.file_words.WordFault.{WordFault}

@@ -1,14 +1,15 @@
 -- Which of the words that name files the file of an output may not stand for, and when it may not have bytes.
 use Rattle.std.specs.Prelude.{◌≡◌, ℕ, Bool, true, false, ◌&&◌, nat_lt, codes, List, [], ◌∷◌, All, map, Option, Some, None, option_map, Result}
 use Rattle.tas_words.specs.declared.task.Task.{Task}
-use Rattle.tas_words.specs.declared.task.Task.TheVariants.{Migrate, New, Edit, Cut, Diff}
+use Rattle.tas_words.specs.declared.task.Task.TheVariants.{Migrate, New, Edit, Cut, Diff, Talk}
+use Rattle.tas_words.specs.declared.task.Start.TheVariants.{Blank, Cart}
 use Rattle.tas_program.specs.declared.folder.OrdinaryFile.{OrdinaryFile}
 use Rattle.tas_program.specs.declared.file_words.FileWord.{FileWord}
-use Rattle.tas_program.specs.declared.file_words.FileWord.TheVariants.{Cart as CartWord, Script as ScriptWord, Other as OtherWord, Old as OldWord, File as FileOut, Input as InputWord}
+use Rattle.tas_program.specs.declared.file_words.FileWord.TheVariants.{Cart as CartWord, Script as ScriptWord, Other as OtherWord, Old as OldWord, File as FileOut, Input as InputWord, Output as OutputWord}
 use Rattle.tas_program.specs.declared.file_words.SeenWord.{SeenWord}
 use Rattle.tas_program.specs.declared.file_words.Permit.{Permit}
 use Rattle.tas_program.specs.declared.file_words.WordFault.{WordFault}
-use Rattle.tas_program.specs.FileWords.{AreSeen, IsSeen, fault_by, fault_in, fault_or, first_fault, first_same}
+use Rattle.tas_program.specs.FileWords.{AreSeen, IsSeen, cart_name, fault_by, fault_in, fault_or, first_fault, first_same}
 
 -- the names of the files that a task reads whose output may replace a file
 abbrev pub cart_input : Task → Option (List ℕ)
@@ -17,6 +18,7 @@ cart_input (New cart frames) = Some cart.now
 cart_input (Cut cart from to) = Some cart.now
 cart_input (Edit cart script other) = Some cart.now
 cart_input (Diff cart old) = Some cart.now
+cart_input (Talk start) = cart_name start
 cart_input chosen = None
 
 abbrev pub script_input : Task → Option (List ℕ)
@@ -31,10 +33,16 @@ abbrev pub old_input : Task → Option (List ℕ)
 old_input (Diff cart old) = Some old.now
 old_input chosen = None
 
--- the same of standard input, which a diff reads as the newer movie: its output is no movie, so it may not replace it
+-- the same of standard input, which a diff reads as the newer movie, and a conversation as its lines: neither may be replaced
 abbrev pub stream_input : Task → Option (List ℕ)
 stream_input (Diff cart old) = Some (codes "/dev/stdin")
+stream_input (Talk start) = Some (codes "/dev/stdin")
 stream_input chosen = None
+
+-- the same of standard output, where a conversation's answers go
+abbrev pub answers_input : Task → Option (List ℕ)
+answers_input (Talk start) = Some (codes "/dev/stdout")
+answers_input chosen = None
 
 -- the same by their words
 abbrev pub input_name : Task → FileWord → Option (List ℕ)
@@ -43,11 +51,12 @@ input_name chosen ScriptWord = script_input chosen
 input_name chosen OtherWord = other_input chosen
 input_name chosen OldWord = old_input chosen
 input_name chosen InputWord = stream_input chosen
+input_name chosen OutputWord = answers_input chosen
 input_name chosen word = None
 
 -- these words in their order
 abbrev pub input_words : List FileWord
-input_words = CartWord ∷ ScriptWord ∷ OtherWord ∷ OldWord ∷ InputWord ∷ []
+input_words = CartWord ∷ ScriptWord ∷ OtherWord ∷ OldWord ∷ InputWord ∷ OutputWord ∷ []
 
 -- each of them is seen as the folder shows its file
 abbrev pub AreInputsSeen : (List ℕ → Option (Option OrdinaryFile)) → Task → List SeenWord → Type 0
@@ -56,6 +65,8 @@ AreInputsSeen shown chosen seen = (map (λ s. s.word) seen ≡ input_words) × A
 -- a task makes a movie from nothing that it reads of one
 abbrev pub starts_movie : Task → Bool
 starts_movie (New cart frames) = true
+starts_movie (Talk Blank) = true
+starts_movie (Talk (Cart cart)) = true
 starts_movie chosen = false
 
 -- an ordinary file has bytes

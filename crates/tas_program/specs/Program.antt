@@ -12,12 +12,13 @@ use Rattle.tas_engines.specs.Movies.{IsMovieRun}
 use Rattle.tas_engines.specs.Checking.{IsCheckAnswer}
 use Rattle.tas_engines.specs.Migrating.{IsMigrateAnswer}
 use Rattle.tas_engines.specs.Starting.{IsNewAnswer}
-use Rattle.tas_movie.specs.Content.{most_inputs}
+use Rattle.tas_movie.specs.Content.{MovieContent, most_inputs}
 use Rattle.tas_engines.specs.Shooting.{IsShotAnswer}
 use Rattle.tas_engines.specs.Output.{StopsWriting}
 use Rattle.tas_engines.specs.Tracing.{IsTraceAnswer}
 use Rattle.tas_tool.specs.Scripts.{IsScriptRun}
-use Rattle.tas_tool.specs.Talk.{talk_state_from, IsTalk, IsCartTalk, IsMovieTalk}
+use Rattle.tas_tool.specs.Talk.{talk_state_from, IsTalk, IsCartTalk, IsMovieTalk, IsTalkLeaving, IsCartTalkLeaving, IsMovieTalkLeaving}
+use Rattle.tas_movie.specs.Text.{text2}
 use Rattle.tas_tool.specs.Pixmaps.{IsExportAnswer}
 use Rattle.tas_tool.specs.MovieScripts.{IsMovieScriptRun}
 use Rattle.tas_engines.specs.Commands.{Answers, OfOne, OfTwo, OfThree, OfFour, IsRun, IsRunOn}
@@ -41,6 +42,7 @@ use Rattle.tas_program.specs.declared.status.Status.{Status}
 use Rattle.tas_program.specs.declared.status.Status.TheVariants.{Done, Fault, Misuse}
 use Rattle.tas_words.specs.declared.task.Task.{Task}
 use Rattle.tas_words.specs.declared.task.Task.TheVariants.{Trace, Check, Migrate, New, Shot, Film, Export, Ram, Digest, Compare, Lag, Edit, Cut, Diff, Script, Talk, Desk}
+use Rattle.tas_words.specs.declared.task.Start.{Start}
 use Rattle.tas_words.specs.declared.task.Start.TheVariants.{Blank, Cart, Movie}
 use Rattle.clap.specs.Walk.{Text}
 use Rattle.tas_words.specs.Invocations.{AreGiven, IsInvocation}
@@ -173,12 +175,52 @@ pub record SavesTask (steps : FileSteps) (read : FileBytes) (chosen : Task) (nam
   pub silent : new.output ≡ old.output
   pub saved : SavedAfter steps done name text files files' end
 
+-- ---- a conversation whose movie replaces a file
+
+-- what a task's conversation starts from, where it is one
+abbrev pub talk_of : Task → Option Start
+talk_of (Talk start) = Some start
+talk_of chosen = None
+
+-- files are opened first: one can't be, the streams are as before, and no movie is left; or a conversation over them ends, and leaves this
+abbrev pub LeavesOver : List (Option (List ℕ)) → FilesRun → Option MovieContent → StreamBytes → StreamBytes → Result (Unit {0}) ToolFault → Type 0
+LeavesOver files ran left old new end =
+    ((end ≡ Err (Read Failed)) × (new ≡ old) × (left ≡ None)) ⊎ ((rest : List (Option (List ℕ))) × ran files rest old.input new.input old.output new.output end)
+
+-- a conversation ends as its definition says, and leaves this movie, or none where it didn't begin
+abbrev pub LeavesTalk : FileBytes → Start → Option MovieContent → StreamBytes → StreamBytes → Result (Unit {0}) ToolFault → Type 0
+LeavesTalk files Blank left old new end = IsTalkLeaving left (talk_state_from None) old.input new.input old.output new.output end
+LeavesTalk files (Cart cart) left old new end = LeavesOver (files.read cart.now ∷ []) (OverOne (IsCartTalkLeaving left)) left old new end
+LeavesTalk files (Movie start) left old new end = LeavesOver (files.read start.cart.now ∷ files.read start.movie.now ∷ []) (OverTwo (IsMovieTalkLeaving left)) left old new end
+
+-- the end where a conversation ended so and its movie was to replace a file: the file's fault, where it has one
+abbrev pub left_end : Result (Unit {0}) ToolFault → Result (Unit {0}) SaveFault → Result (Unit {0}) TaskFault
+left_end done (Ok u) = tool_end done
+left_end done (Err fault) = Err (NotSaved fault)
+
+-- what comes of the file: the text of the movie that is left replaces it, whatever ended the conversation; where none is left no file is touched
+abbrev pub LeftAfter : FileSteps → Result (Unit {0}) ToolFault → Option MovieContent → (name : List ℕ) → (files files' : Option Files) → Result (Unit {0}) TaskFault → Type 0
+LeftAfter steps done (Some movie) name files files' end = (saved : Result (Unit {0}) SaveFault) × (end ≡ left_end done saved) × SaveEnds steps name (text2 movie) files files' saved
+LeftAfter steps done None name files files' end = (end ≡ tool_end done) × (files' ≡ files)
+
+-- a conversation is held as without a file, its answers on standard output, and the movie that it leaves replaces the file
+pub record SavesTalk (steps : FileSteps) (read : FileBytes) (start : Start) (name : List ℕ) (old new : StreamBytes) (files files' : Option Files) (end : Result (Unit {0}) TaskFault) : Type 0 where
+  pub done : Result (Unit {0}) ToolFault
+  pub left : Option MovieContent
+  pub does : LeavesTalk read start left old new done
+  pub saved : LeftAfter steps done left name files files' end
+
+-- what a task does that replaces a file
+abbrev pub SavesBy : FileSteps → Option Start → FileBytes → Task → List ℕ → (old new : StreamBytes) → (files files' : Option Files) → Result (Unit {0}) TaskFault → Type 0
+SavesBy steps None read chosen name old new files files' end = SavesTask steps read chosen name old new files files' end
+SavesBy steps (Some start) read chosen name old new files files' end = SavesTalk steps read start name old new files files' end
+
 -- what is done after the words were looked at: where one is at fault, the task ends with that, and nothing is read or written; else it is
 -- done and saved, by steps of the folder, in a directory of some files. These may be files that aren't known, as those of the system's folder
 -- are: of them it says nothing
 abbrev pub SavesAfter : FileSteps → FileBytes → Task → List ℕ → Option WordFault → StreamBytes → StreamBytes → Result (Unit {0}) TaskFault → Type 0
 SavesAfter steps read chosen name (Some fault) old new end = (end ≡ Err (Word fault)) × (new ≡ old)
-SavesAfter steps read chosen name None old new end = (files files' : Option Files) × SavesTask steps read chosen name old new files files' end
+SavesAfter steps read chosen name None old new end = (files files' : Option Files) × SavesBy steps (talk_of chosen) read chosen name old new files files' end
 
 -- a task is run whose output replaces a file: its words are seen as the folder shows their files, and the first one at fault decides, as for
 -- a task whose output replaces none; then one that is this file does, or this file

@@ -143,7 +143,7 @@ fn pair_of(pairs: Pairs<'_>, number: usize) -> Option<Pair<'_>>
 }
 
 /// The cartridge's name of a conversation.
-fn cart_of(start: Start<'_>) -> Option<&str>
+pub(crate) fn cart_of(start: Start<'_>) -> Option<&str>
     ensures { option_map (λ name. name.now) result ≡ cart_name start.entry }
 {
     match start {

@@ -2,17 +2,18 @@
 //!
 //! The file may be that of standard input where the output is a movie made of it, and none that a word names: a movie is
 //! edited in place on purpose, and a cartridge replaced by a movie by mistake. The output of `diff` is a script, so it
-//! doesn't replace the newer movie; that of `new` is a blank movie, so it replaces nothing. What isn't an ordinary file is
-//! refused at the rename, since root could replace a device.
+//! doesn't replace the newer movie; that of `new` is a blank movie, so it replaces nothing. A conversation edits MOVIE in
+//! place, but its movie replaces neither its lines nor its answers; one without MOVIE begins a movie, as `new` does. What
+//! isn't an ordinary file is refused at the rename, since root could replace a device.
 
 ghost use Rattle.std.specs.Prelude.{◌≡◌, Some, option_map};
 ghost use Rattle.tas_program.specs.FileWords.{IsSeen};
-ghost use Rattle.tas_program.specs.OutputWords.{AreInputsSeen, OutputEnds, cart_input, has_some, old_input, other_input};
+ghost use Rattle.tas_program.specs.OutputWords.{AreInputsSeen, OutputEnds, answers_input, cart_input, has_some, old_input, other_input};
 ghost use Rattle.tas_program.specs.OutputWords.{output_fault, script_input, starts_movie, stream_input};
 
-use crate::file_words::{SeenWord, same_among};
+use crate::file_words::{SeenWord, cart_of as cart_of_talk, same_among};
 use crate::{FileWord, Folder, OrdinaryFile, Permit, WordFault, check_words};
-use tas_words::Task;
+use tas_words::{Start, Task};
 
 /// The name of the cartridge's file of a task whose output may replace a file.
 fn cart_of<'a>(task: Task<'a>) -> Option<&'a str>
@@ -24,6 +25,7 @@ fn cart_of<'a>(task: Task<'a>) -> Option<&'a str>
         Task::Cut { cart, .. } => Some(cart),
         Task::Edit { cart, .. } => Some(cart),
         Task::Diff { cart, old: _ } => Some(cart),
+        Task::Talk(start) => cart_of_talk(start),
         _ => None,
     }
 }
@@ -63,7 +65,17 @@ fn stream_of(task: Task<'_>) -> Option<&'static str>
     ensures { option_map (λ name. name.now) result ≡ stream_input task.entry }
 {
     match task {
-        Task::Diff { .. } => Some("/dev/stdin"),
+        Task::Diff { .. } | Task::Talk(_) => Some("/dev/stdin"),
+        _ => None,
+    }
+}
+
+/// The name of standard output, where something else than the file's bytes goes there.
+fn answers_of(task: Task<'_>) -> Option<&'static str>
+    ensures { option_map (λ name. name.now) result ≡ answers_input task.entry }
+{
+    match task {
+        Task::Talk(_) => Some("/dev/stdout"),
         _ => None,
     }
 }
@@ -81,7 +93,7 @@ fn see<F: Folder>(folder: &F, word: FileWord, name: Option<&str>) -> SeenWord
 }
 
 /// The files that a task reads, as the folder shows them.
-fn see_inputs<F: Folder>(folder: &F, task: Task<'_>) -> [SeenWord; 5]
+fn see_inputs<F: Folder>(folder: &F, task: Task<'_>) -> [SeenWord; 6]
     ensures { AreInputsSeen (F.shown folder.now) task.entry result }
 {
     [
@@ -90,6 +102,7 @@ fn see_inputs<F: Folder>(folder: &F, task: Task<'_>) -> [SeenWord; 5]
         see(folder, FileWord::Other, other_of(task)),
         see(folder, FileWord::Old, old_of(task)),
         see(folder, FileWord::Input, stream_of(task)),
+        see(folder, FileWord::Output, answers_of(task)),
     ]
 }
 
@@ -99,6 +112,7 @@ fn starts_movie(task: Task<'_>) -> bool
 {
     match task {
         Task::New { .. } => true,
+        Task::Talk(Start::Blank) | Task::Talk(Start::Cart { .. }) => true,
         _ => false,
     }
 }
@@ -137,12 +151,14 @@ fn output_fault(task: Task<'_>, inputs: &[SeenWord], file: SeenWord) -> Option<W
 
 /// Looks at the files that a task's words name, before any is opened: first as [`check_words`] does for a task whose output replaces no
 /// file. Then it is an error where the file that the output replaces is the ordinary file of another word, or for [`Task::New`] an ordinary
-/// file with bytes. Standard input may be this file, since it is read whole before, but not for [`Task::Diff`].
+/// file with bytes. Standard input may be this file, since it is read whole before, but not for [`Task::Diff`]. For [`Task::Talk`] the file
+/// may be the movie's, but not that of standard input or output, and it may have bytes only where the conversation starts from a movie.
 pub fn check_output<F: Folder>(folder: &F, task: Task<'_>, file: &str) -> Result<Permit, WordFault>
     // Where a word of the task is at fault, the task ends with this fault, and no stream is read or written. So it does where
-    // the file is the ordinary file of CART, SCRIPT, OTHER or OLD, or for `diff` that of standard input, or for `new` has
-    // bytes, by what the folder showed. Else it is saved.
-    // Refused: script_may_be_replaced, output_may_replace_any_file, script_may_replace_the_newer_movie,
+    // the file is the ordinary file of CART, SCRIPT, OTHER or OLD, or for `diff` that of standard input, for `talk` that of
+    // standard input or output, or for `new`, and for `talk` without MOVIE, has bytes, by what the folder showed. Else it is
+    // saved.
+    // Refused: answers_may_be_replaced, movie_begun_in_a_conversation_may_replace_one, script_may_be_replaced, output_may_replace_any_file, script_may_replace_the_newer_movie,
     // blank_movie_may_replace_a_movie, words_at_fault_are_saved.
     ensures { OutputEnds (F.shown folder.now) task.entry file.now result }
 {

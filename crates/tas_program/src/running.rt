@@ -15,6 +15,7 @@ ghost use Rattle.tas_program.specs.Files.{files_by};
 ghost use Rattle.tas_program.specs.Program.{EndsOver, DoesTask, IsTaskRun, CarriesOut, ProgramEnds, end_status, tool_end};
 
 use crate::pipes::pipes_of;
+use crate::saved_talks::hold_talk;
 use crate::{Folder, Permit, Status, Streams, TaskFault, check_words, save_task, tell_waiting};
 use std::alloc::{Allocator, Global};
 use std::env::Args;
@@ -24,13 +25,13 @@ use std::sync::Wait;
 use std::thread::Threads;
 use tas_engines::{Command, Whole, commands, run};
 use tas_tool::{
-    ReadFault, RunFault, ToolFault, cart_talk_run, desk_run, export_run, film_run,
-    movie_script_run, movie_talk_run, script_run, talk_run, write_all,
+    ReadFault, RunFault, ToolFault, desk_run, export_run, film_run, movie_script_run, script_run,
+    write_all,
 };
 use tas_words::{Invocation, MovieFiles, Pairs, Start, Task, collect_words, read_invocation};
 
 /// Opens a file of this name.
-fn open<F: Folder>(folder: &F, name: &str) -> Result<F::File, ToolFault>
+pub(crate) fn open<F: Folder>(folder: &F, name: &str) -> Result<F::File, ToolFault>
     ensures file { IfOk result (λ file. F.File.remaining file ≡ F.bytes_of folder.now name.now) }
     ensures fault { IfErr result (λ fault. fault ≡ ToolFault.Read ReadFault.Failed) }
 {
@@ -151,14 +152,7 @@ fn run_talk<T: Wait, A: Allocator + Copy, F: Folder, R: Read, W: Write>(
         (record { input = R.remaining input.old; output = W.contents output.old })
         (record { input = R.remaining input.new; output = W.contents output.new }) result }
 {
-    match start {
-        Start::Blank => talk_run(rt, alloc, input, output),
-        Start::Cart { cart } => cart_talk_run(rt, alloc, &mut open(folder, cart)?, input, output),
-        Start::Movie(files) => {
-            let (mut cart, mut movie) = (open(folder, files.cart)?, open(folder, files.movie)?);
-            movie_talk_run(rt, alloc, &mut cart, &mut movie, input, output)
-        }
-    }
+    hold_talk(rt, alloc, start, folder, input, output).end
 }
 
 /// Answers the lines of several files at once, on one movie.
@@ -277,7 +271,7 @@ pub(crate) fn run_engine<
 }
 
 /// The end of a task whose engine was run.
-fn ended(end: Result<(), ToolFault>) -> Result<(), TaskFault>
+pub(crate) fn ended(end: Result<(), ToolFault>) -> Result<(), TaskFault>
     ensures { result ≡ tool_end end }
 {
     match end {
@@ -402,7 +396,7 @@ pub fn carry_out<
     // The program ends with 0 exactly where the task is done, or the text that was asked for is written whole, with 1
     // after a fault, and with 2, nothing read and nothing written to standard output, where a word is at fault or the
     // words aren't understood. Where the output replaces a file, the end is 0 only where the engine is done and the file was
-    // given the output, as the folder states its steps.
+    // given the output, or the movie that a conversation leaves, as the folder states its steps.
     // Refused: fault_ends_with_status_0, program_saves_under_another_name, word_at_fault_ends_with_status_1*, misuse_ends_with_status_1*,
     // misuse_is_shown_as_help*.
     ensures { CarriesOut F.steps

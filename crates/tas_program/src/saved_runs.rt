@@ -6,8 +6,10 @@ ghost use Rattle.tas_program.specs.Program.{IsSaveRun, SavesTask, held_fault, sa
 
 use crate::directory::Names;
 use crate::running::run_engine;
+use crate::saved_talks::talk_of;
 use crate::{
-    Directory, Folder, Permit, SaveFault, Streams, TaskFault, check_output, save, tell_waiting,
+    Directory, Folder, Permit, SaveFault, Streams, TaskFault, check_output, save, save_talk,
+    tell_waiting,
 };
 use std::alloc::{Allocator, Global};
 use std::io::{Read, Write};
@@ -86,7 +88,7 @@ pub fn save_run<
 }
 
 /// Does a task whose output replaces a file: first the files that its words name are looked at ([`check_output`]); where one is at fault,
-/// as where this file is one of them, nothing is opened. Then it does as [`save_run`].
+/// as where this file is one of them, nothing is opened. Then it does as [`save_run`], or for [`Task::Talk`] as [`save_talk`].
 pub fn save_task<
     T: Wait + Threads + Sync,
     A: Allocator + Copy + Send + Sync,
@@ -104,8 +106,9 @@ pub fn save_task<
     streams: &mut Streams<R, W, E>,
 ) -> Result<(), TaskFault>
     // What is wrong with a word comes first, as `check_output` says. A good end comes only after the engine is done and a
-    // new file was made beside this one, all of the output was written to that and brought to the disk, and it took this
-    // one's name: each by a call that succeeded, as the folder states its steps. The system's states none.
+    // new file was made beside this one, all of the output, or of the text of the movie that a conversation leaves, was
+    // written to that and brought to the disk, and it took this one's name: each by a call that succeeded, as the folder
+    // states its steps. The system's states none.
     // Refused: nothing_is_saved, output_is_saved_under_another_name.
     ensures { IsSaveRun F.steps
         (files_by (F.bytes_of folder.now) (F.held_by folder.now) (F.shown folder.now))
@@ -114,9 +117,12 @@ pub fn save_task<
     match check_output(folder, task, file) {
         Ok(permit) => {
             let mut names = Names::new(folder, permit);
-            save_run(
-                rt, global, alloc, task, file, permit, folder, &mut names, streams,
-            )
+            match talk_of(task) {
+                Some(start) => save_talk(rt, alloc, start, file, folder, &mut names, streams),
+                None => save_run(
+                    rt, global, alloc, task, file, permit, folder, &mut names, streams,
+                ),
+            }
         }
         Err(fault) => Err(TaskFault::Word(fault)),
     }

@@ -8,7 +8,7 @@
 //! An output is beside its task, not in it (`Order`): each command writes to a writer as ever, here to one in memory, and
 //! what comes of the file is the same for all. So the folder sees a new file only once the answer is whole, and a write to
 //! memory that fails is `out of memory`. The commands whose answer is kept as a file have it. A conversation's answers are
-//! for its other end, so `talk` doesn't.
+//! for its other end, so of `talk` the file gets the movie that is left (`saved_talks`).
 
 ghost use Rattle.std.specs.Prelude.{◌≡◌, ◌⊎◌, ℕ, List, Option, Some, IfOk, IfErr, OnErr, OnOk, option_map, string_bytes};
 ghost use Rattle.std.specs.Io.KnownBytes.{Appends};

@@ -46,9 +46,9 @@ use Rattle.tas_seat.specs.Conversations.{TalkingSeat, talking, text_of, uncommit
 use Rattle.tas_published.specs.Strokes.{edited_by, refusal_in}
 use Rattle.tas_seat.specs.Turns.{Standing, standing_of, refusal_reply}
 use Rattle.tas_seat.proofs.CommitLemmas.{made_after, made_by_entries}
-use Rattle.tas_seat.specs.Talk.{Exchange as SeatExchange, IsExchange as IsSeatExchange, AreExchanges as AreSeatExchanges, TalkEnds as SeatEnds, IsTalk as IsSeatTalk, lines_of as seat_lines, answers_of as seat_texts, edits_of}
+use Rattle.tas_seat.specs.Talk.{Exchange as SeatExchange, IsExchange as IsSeatExchange, AreExchanges as AreSeatExchanges, TalkEnds as SeatEnds, HasLooked, IsCarriedOut as IsSeatCarriedOut, IsTalk as IsSeatTalk, lines_of as seat_lines, answers_of as seat_texts, edits_of}
 use Rattle.tas_seat.proofs.HistoryLemmas.{Leaves, prefix_length, by_length, by_rest, front_length, leaves_after, strip_leaves, exchange_leaves, exchanges_leave, rested, Rested}
-use Rattle.tas_tool.specs.Talk.{StripAnswer, AreStrip, strip_answers, own_entries, IsOwnHistory, IsAnswerTo, edits_between, DraftedState, drafted, IsOwnCommit, IsOutsideAnswer, IsInsideAnswer, IsDraftedAnswer, IsLineAnswer, Exchange, IsExchange, AreExchanges, TalkEnds, IsTalk, lines_of, answers_of}
+use Rattle.tas_tool.specs.Talk.{StripAnswer, AreStrip, strip_answers, own_entries, IsOwnHistory, IsAnswerTo, edits_between, DraftedState, drafted, IsOwnCommit, IsOutsideAnswer, IsInsideAnswer, IsDraftedAnswer, IsLineAnswer, Exchange, IsExchange, AreExchanges, TalkEnds, IsCarriedOut, LeavesMovie, IsTalkLeaving, lines_of, answers_of}
 use Rattle.tas_tool.specs.Inside.Alone.{SeesOwn}
 
 -- what the seat has seen comes to, and its greenzone
@@ -99,7 +99,7 @@ sees_before {A} seat last edits left own = record {
 pub seen_after : {A : Type 0} (seat last : SeatContent A) (edits : List (Edit A)) → Leaves seat last edits → seat.made ≤ length seat.front → last.made ≤ length last.front
 seen_after seat last edits left seen = omega (arith, left.made, left.longer, seen)
 
-none_left : {X : Type 0} (xs : List X) → length xs ≡ 0 → xs ≡ []
+pub none_left : {X : Type 0} (xs : List X) → length xs ≡ 0 → xs ≡ []
 none_left [] is = refl
 none_left (x ∷ xs) is = absurd (omega (arith, is))
 
@@ -605,13 +605,56 @@ own_ends seat last rest told edits input output output' (Err (Run (Long number))
 own_ends seat last rest told edits input output output' (Err (Run NoPlace)) is other seen own = absurd is
 own_ends seat last rest told edits input output output' (Err (Seat number fault)) is other seen own = absurd is
 
+-- ---- the movie that is left
+
+-- a seat that made nothing more has seen nothing more
+same_front : {A : Type 0} (seat last : SeatContent A) (edits : List (Edit A)) → Leaves seat last edits → edits ≡ [] → seat.made ≤ length seat.front → SeesOwn last → last.front ≡ seat.front
+same_front {A} seat last edits left none seen own =
+    let count : length edits ≡ 0 = ap (λ (l : List (Edit A)). length l) none in
+    let more : left.seen.0 ≡ [] = none_left left.seen.0 (omega (arith, left.made, count, own.few, seen, prefix_length seat.front last.front left.seen)) in
+    sym left.seen.1 ∙ ap (λ (l : List (Entry A)). seat.front ++ l) more ∙ append-nil seat.front
+
+own_looked : {A : Type 0} (seat : TalkingSeat A) (last : SeatContent A) (rest : List ℕ) (edits : List (Edit A)) → HasLooked seat last rest edits → Leaves seat.seat last edits → seat.seat.made ≤ length seat.seat.front → SeesOwn last
+    → movie_of last.front ≡ (own_place seat).state.stands.movie
+own_looked {A} seat last rest edits is left seen own = ap (λ (l : List (Entry A)). movie_of l) (same_front seat.seat last edits left is.none seen own)
+
+own_carried : {A : Type 0} (seat : TalkingSeat A) (last : SeatContent A) (rest answer : List ℕ) (edits : List (Edit A)) → IsSeatCarriedOut seat last rest edits answer → seat.seat.made ≤ length seat.seat.front → SeesOwn last
+    → IsCarriedOut (own_place seat) rest (movie_of last.front)
+own_carried {A} seat last rest answer edits is seen own =
+    let next : SeesOwn is.exchange.next.seat = subst (λ (s : SeatContent A). SeesOwn s) is.last_is own in
+    (own_exchange is.exchange, is.more, own_is seat is.exchange is.is seen next, is.text, ap (λ (s : SeatContent A). movie_of s.front) is.last_is)
+
+own_left : {A : Type 0} (seat : TalkingSeat A) (last : SeatContent A) (rest told : List ℕ) (edits : List (Edit A)) (input output output' : Option (List ℕ)) (result : Result (Unit {0}) ToolFault) → SeatEnds seat last rest told edits input output output' result
+    → Leaves seat.seat last edits → (result ≡ Err (Run Foreign) → ⊥) → seat.seat.made ≤ length seat.seat.front → SeesOwn last → LeavesMovie (own_place seat) rest (movie_of last.front) result
+own_left {A} seat last rest told edits input output output' (Ok u) is left other seen own = ap (λ (s : SeatContent A). movie_of s.front) is.0.same
+own_left {A} seat last rest told edits input output output' (Err (Read Failed)) is left other seen own = ap (λ (s : SeatContent A). movie_of s.front) is.0.same
+own_left {A} seat last rest told edits input output output' (Err (Run (Write written))) (answer, inl is, cut) left other seen own = inl (own_carried seat last rest answer edits is seen own)
+own_left {A} seat last rest told edits input output output' (Err (Run (Write written))) (answer, inr is, cut) left other seen own = inr (is.1, ap (λ (s : SeatContent A). movie_of s.front) is.0.same)
+own_left seat last rest told edits input output output' (Err (Run Memory)) (inl is, out) left other seen own = inr (own_looked seat last rest edits is left seen own)
+own_left seat last rest told edits input output output' (Err (Run Memory)) (inr (answer, is), out) left other seen own = inl (own_carried seat last rest answer edits is seen own)
+own_left seat last rest told edits input output output' (Err (Run NoEntry)) is left other seen own = own_looked seat last rest edits is.0 left seen own
+own_left seat last rest told edits input output output' (Err (Run Foreign)) is left other seen own = absurd (other refl)
+own_left seat last rest told edits input output output' (Err (Read TooLong)) is left other seen own = absurd is
+own_left seat last rest told edits input output output' (Err (Read NoRoom)) is left other seen own = absurd is
+own_left seat last rest told edits input output output' (Err (Run (Size n))) is left other seen own = absurd is
+own_left seat last rest told edits input output output' (Err (Run (Text error))) is left other seen own = absurd is
+own_left seat last rest told edits input output output' (Err (Run (OffMovie frame len))) is left other seen own = absurd is
+own_left seat last rest told edits input output output' (Err (Run (OffRange from to len))) is left other seen own = absurd is
+own_left seat last rest told edits input output output' (Err (Run (Stopped at opcode))) is left other seen own = absurd is
+own_left seat last rest told edits input output output' (Err (Run (StoppedFrame frame at opcode))) is left other seen own = absurd is
+own_left seat last rest told edits input output output' (Err (Run (Script number))) is left other seen own = absurd is
+own_left seat last rest told edits input output output' (Err (Run (Place number))) is left other seen own = absurd is
+own_left seat last rest told edits input output output' (Err (Run (Long number))) is left other seen own = absurd is
+own_left seat last rest told edits input output output' (Err (Run NoPlace)) is left other seen own = absurd is
+own_left seat last rest told edits input output output' (Err (Seat number fault)) is left other seen own = absurd is
+
 -- where a seat's conversation begins: with no draft
 abbrev pub place_of : {A : Type 0} → SeatContent A → DraftedState
 place_of seat = own_place (talking seat None)
 
 -- a seat's conversation on a desk where nobody else makes edits is one of a single seat
 pub own_talk : {A : Type 0} (start last : SeatContent A) (input input' output output' : Option (List ℕ)) (result : Result (Unit {0}) ToolFault) → IsSeatTalk start last input input' output output' result → start.made ≤ length start.front
-    → SeesOwn last → IsTalk (place_of start) input input' output output' result × SeesOwn start
+    → SeesOwn last → IsTalkLeaving (Some (movie_of last.front)) (place_of start) input input' output output' result × SeesOwn start × (last.made ≤ length last.front)
 own_talk {A} start last input input' output output' result talk seen own = go (rested talk.seat last talk.rest _ talk.more input' output output' result talk.ends)
   where
     first : Leaves start talk.seat.seat (edits_of talk.exchanges)
@@ -620,7 +663,7 @@ own_talk {A} start last input input' output output' result talk seen own = go (r
     seen_all : talk.seat.seat.made ≤ length talk.seat.seat.front
     seen_all = seen_after start talk.seat.seat (edits_of talk.exchanges) first seen
 
-    go : Rested talk.seat last talk.more result → IsTalk (place_of start) input input' output output' result × SeesOwn start
+    go : Rested talk.seat last talk.more result → IsTalkLeaving (Some (movie_of last.front)) (place_of start) input input' output output' result × SeesOwn start × (last.made ≤ length last.front)
     go (inl strange) =
         let more = prefix_length talk.seat.seat.front last.front strange.seen.begins in
         let counted : entries_of last.number last.front ≡ length last.front = ap (λ (n : ℕ). entries_of n last.front) own.number ∙ own.alone in
@@ -630,12 +673,16 @@ own_talk {A} start last input input' output output' result talk seen own = go (r
         let ends : TalkEnds (own_place talk.seat) talk.rest (seat_texts talk.exchanges) input' output output' result =
         own_ends talk.seat last talk.rest (seat_texts talk.exchanges) talk.more input' output output' result talk.ends other seen_all own in (
           record {
-            exchanges = own_all talk.exchanges;
-            state = own_place talk.seat;
-            rest = talk.rest;
-            answered = own_exchanges (talking start None) talk.seat talk.exchanges talk.answered seen middle;
-            left = subst (λ (l : List ℕ). Consumes input input' (l ++ talk.rest)) (sym (all_lines talk.exchanges)) talk.left;
-            ends = subst (λ (l : List ℕ). TalkEnds (own_place talk.seat) talk.rest l input' output output' result) (sym (all_answers talk.exchanges)) ends;
+            talk = record {
+              exchanges = own_all talk.exchanges;
+              state = own_place talk.seat;
+              rest = talk.rest;
+              answered = own_exchanges (talking start None) talk.seat talk.exchanges talk.answered seen middle;
+              left = subst (λ (l : List ℕ). Consumes input input' (l ++ talk.rest)) (sym (all_lines talk.exchanges)) talk.left;
+              ends = subst (λ (l : List ℕ). TalkEnds (own_place talk.seat) talk.rest l input' output output' result) (sym (all_answers talk.exchanges)) ends;
+            };
+            left_is = own_left talk.seat last talk.rest (seat_texts talk.exchanges) talk.more input' output output' result talk.ends left other seen_all own;
           },
           sees_before start talk.seat.seat (edits_of talk.exchanges) first middle,
+          seen_after talk.seat.seat last talk.more left seen_all,
         )

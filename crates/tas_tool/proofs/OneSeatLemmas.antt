@@ -1,10 +1,10 @@
 -- A desk of one seat, from its opening to its end.
-use Rattle.std.proofs.Common.{◌≡◌, ℕ, zero, suc, ◌+◌, ◌<◌, ◌≤◌, List, [], ◌∷◌, ◌++◌, length, take, set, Bool, true, false, cond, Some, ◌⊎◌, inl, inr, sym, ap, subst, ◌∙◌, arith, length-append}
+use Rattle.std.proofs.Common.{◌≡◌, ℕ, zero, suc, ◌+◌, ◌<◌, ◌≤◌, List, [], ◌∷◌, ◌++◌, length, take, set, Bool, true, false, cond, Some, ◌⊎◌, inl, inr, sym, ap, subst, ◌∙◌, arith, append-nil, length-append}
 use Rattle.std.specs.Prelude.{All, count_by, ◌==◌, slice_get, slice_index_or}
 use Rattle.logbook.specs.Pages.{Book}
 use Rattle.tas_movie.specs.Content.{MovieContent, blank_movie}
 use Rattle.tas_published.specs.declared.entry.Entry.{Entry}
-use Rattle.tas_published.specs.History.{entries_of}
+use Rattle.tas_published.specs.History.{entries_of, movie_of}
 use Rattle.tas_desk.specs.Seats.{SeatContent, seat_of, IsSettled, IsWhole}
 use Rattle.tas_desk.specs.Zones.{ZoneContent, blank_zone}
 use Rattle.tas_desk.specs.Closing.{made_by}
@@ -15,7 +15,8 @@ use Rattle.tas_engines.specs.declared.fault.RunFault.TheVariants.{NoPlace, Memor
 use Rattle.tas_seat.specs.Turns.{Standing, standing_of}
 use Rattle.tas_tool.specs.Scripts.{standing_at_start}
 use Rattle.tas_tool.specs.Inside.Alone.{SeesOwn}
-use Rattle.tas_tool.proofs.AloneLemmas.{alone_before}
+use Rattle.tas_tool.proofs.AloneLemmas.{alone_before, none_left}
+use Rattle.tas_seat.proofs.HistoryLemmas.{prefix_length}
 
 -- ---- the seat of a desk that was just opened
 
@@ -86,6 +87,16 @@ sees_alone {A} journal seats seat is settled count nought =
       few = sees_own journal seats seat is settled count;
       alone = alone_before 0 seat.front journal mine.begins (omega (arith, all, sum));
     }
+
+-- where it has seen all that it made, its movie is the one that the desk leaves
+pub left_movie : {A : Type 0} (journal : List (Entry A)) (seats : List (SeatContent A)) (seat : SeatContent A) → seats ≡ seat ∷ [] → All (IsSettled journal) seats → length journal ≡ made_by seats → seat.made ≤ length seat.front
+    → movie_of journal ≡ movie_of seat.front
+left_movie {A} journal seats seat is settled count seen =
+    let one : All (IsSettled journal) (seat ∷ []) = subst (λ (l : List (SeatContent A)). All (IsSettled journal) l) is settled in
+    let mine : IsSettled journal seat = one zero seat (omega arith) in
+    let sum : length journal ≡ seat.made + 0 = count ∙ ap (λ (l : List (SeatContent A)). made_by l) is in
+    let none : mine.begins.0 ≡ [] = none_left mine.begins.0 (omega (arith, seen, sum, prefix_length seat.front journal mine.begins)) in
+    ap (λ (l : List (Entry A)). movie_of l) (sym mine.begins.1 ∙ ap (λ (l : List (Entry A)). seat.front ++ l) none ∙ append-nil seat.front)
 
 -- the one seat, written back
 pub written_back : {X : Type 0} (xs rest out : List X) (x : X) (n : ℕ) → length xs ≡ 1 → n ≡ 1 → out ≡ take n (set xs 0 x ++ rest) → out ≡ x ∷ []

@@ -1,5 +1,5 @@
 -- Conversations over a cartridge or a movie.
-use Rattle.std.proofs.Common.{◌≡◌, ℕ, List, [], ◌∷◌, ◌++◌, length, take, true, Option, Some, None, Result, Ok, Err, inl, inr, refl, sym, ap, subst, ◌∙◌, arith}
+use Rattle.std.proofs.Common.{◌≡◌, ◌≤◌, ℕ, List, [], ◌∷◌, ◌++◌, length, take, true, Option, Some, None, Result, Ok, Err, inl, inr, refl, sym, ap, subst, ◌∙◌, arith}
 use Rattle.std.proofs.KnownBytes.{Appends-nil, Consumes-nil, Keeps-refl}
 use Rattle.std.proofs.lemmas.List.{take_all}
 use Rattle.vcs_inputs.specs.Cart.{is_cart_size}
@@ -8,6 +8,7 @@ use Rattle.tas_movie.specs.declared.edit.Edit.{Edit}
 use Rattle.tas_green.specs.declared.savestate.Savestate.{Savestate}
 use Rattle.tas_published.specs.declared.entry.Entry.{Entry}
 use Rattle.tas_published.specs.Strokes.{edits_in}
+use Rattle.tas_published.specs.History.{movie_of}
 use Rattle.tas_published.proofs.HistoryLemmas.{movie_of-none}
 use Rattle.tas_desk.specs.Seats.{SeatContent}
 use Rattle.tas_desk.specs.Zones.{ZoneContent}
@@ -19,8 +20,8 @@ use Rattle.tas_engines.specs.declared.fault.ToolFault.{ToolFault}
 use Rattle.tas_engines.specs.declared.fault.ToolFault.TheVariants.{Read, Run}
 use Rattle.tas_engines.specs.Input.{IsReadWhole, StopsReading}
 use Rattle.tas_engines.specs.Tracing.{IsImageFault}
-use Rattle.tas_tool.specs.Talk.{IsUntouched, IsCartTalk, IsMovieTalk, DraftedState, drafted, AreExchanges, IsTalk, fresh_talk_state, talk_state_from}
-use Rattle.tas_tool.specs.Inside.Alone.{SeesOwn, StartsTalk}
+use Rattle.tas_tool.specs.Talk.{IsUntouched, IsCartTalk, IsMovieTalk, IsTalkLeaving, IsCartTalkLeaving, IsMovieTalkLeaving, DraftedState, drafted, AreExchanges, fresh_talk_state, talk_state_from}
+use Rattle.tas_tool.specs.Inside.Alone.{SeesOwn, StartsTalk, end_of, left_of, EndsMade}
 use Rattle.tas_tool.specs.Inside.Holding.{ReadsMovie}
 use Rattle.tas_seat.specs.Turns.{Standing, standing_of}
 use Rattle.tas_seat.specs.Requests.{TalkState}
@@ -36,14 +37,23 @@ no_exchanges : (state : DraftedState) → AreExchanges state [] state
 unfolding AreExchanges
 no_exchanges state = refl
 
-pub no_memory_yet : (start : DraftedState) (input output : Option (List ℕ)) → IsTalk start input input output output (Err (Run Memory))
-no_memory_yet start input output = record { exchanges = []; state = start; rest = []; answered = no_exchanges start; left = Consumes-nil input; ends = Appends-nil output }
+untouched : (input output : Option (List ℕ)) → IsUntouched input input output output
+untouched input output = record { unread = refl; unwritten = Keeps-refl output }
 
-pub no_place_yet : (start : DraftedState) (input output : Option (List ℕ)) → IsTalk start input input output output (Err (Run NoPlace))
-no_place_yet start input output = record { exchanges = []; state = start; rest = []; answered = no_exchanges start; left = Consumes-nil input; ends = (refl, refl, Appends-nil output) }
+pub no_memory_yet : (start : DraftedState) (input output : Option (List ℕ)) → IsTalkLeaving None start input input output output (Err (Run Memory))
+no_memory_yet start input output = record {
+  talk = record { exchanges = []; state = start; rest = []; answered = no_exchanges start; left = Consumes-nil input; ends = Appends-nil output };
+  left_is = (untouched input output, (Memory, refl, tt));
+}
+
+pub no_place_yet : (start : DraftedState) (input output : Option (List ℕ)) → IsTalkLeaving None start input input output output (Err (Run NoPlace))
+no_place_yet start input output = record {
+  talk = record { exchanges = []; state = start; rest = []; answered = no_exchanges start; left = Consumes-nil input; ends = (refl, refl, Appends-nil output) };
+  left_is = (untouched input output, (NoPlace, refl, tt));
+}
 
 -- the movie wasn't made
-pub unmade_talk : {A : Type 0} (start : DraftedState) (seat : SeatContent A) (fault : RunFault) (input output : Option (List ℕ)) → IsMakingFault seat fault → SeesOwn seat → IsTalk start input input output output (Err (Run fault))
+pub unmade_talk : {A : Type 0} (start : DraftedState) (seat : SeatContent A) (fault : RunFault) (input output : Option (List ℕ)) → IsMakingFault seat fault → SeesOwn seat → IsTalkLeaving None start input input output output (Err (Run fault))
 unmade_talk {A} start seat Memory input output is own = no_memory_yet start input output
 unmade_talk start seat Foreign input output is own = absurd (omega (arith, is, own.few))
 unmade_talk start seat NoEntry input output is own = absurd is
@@ -96,38 +106,62 @@ made_state {A} before now movie holds own zone blank none =
     (ap (λ (z : ZoneContent A). z.movie) zone ∙ blank) (ap (λ (z : ZoneContent A). z.states) zone ∙ none)
 
 -- the same conversation, its start named otherwise
-pub talk_as : (start other : DraftedState) (input input' output output' : Option (List ℕ)) (result : Result (Unit {0}) ToolFault) → start ≡ other → IsTalk start input input' output output' result
-    → IsTalk other input input' output output' result
-talk_as start other input input' output output' result same talk = subst (λ (f : DraftedState). IsTalk f input input' output output' result) same talk
+pub talk_as : (left : Option MovieContent) (start other : DraftedState) (input input' output output' : Option (List ℕ)) (result : Result (Unit {0}) ToolFault) → start ≡ other → IsTalkLeaving left start input input' output output' result
+    → IsTalkLeaving left other input input' output output' result
+talk_as left start other input input' output output' result same talk = subst (λ (f : DraftedState). IsTalkLeaving left f input input' output output' result) same talk
 
-untouched : (input output : Option (List ℕ)) → IsUntouched input input output output
-untouched input output = record { unread = refl; unwritten = Keeps-refl output }
+-- the same where its desk leaves this movie
+pub talk_closed : {A : Type 0} (seat : SeatContent A) (start : DraftedState) (input input' output output' : Option (List ℕ)) (made : Result (Result (Unit {0}) ToolFault) RunFault) (movie : MovieContent) → EndsMade seat start input input' output output' made
+    → (seat.made ≤ length seat.front → movie ≡ movie_of seat.front) → IsTalkLeaving (left_of made movie) start input input' output output' (end_of made)
+talk_closed seat start input input' output output' (Ok end) movie (seen, talk) is = subst (λ (m : MovieContent). IsTalkLeaving (Some m) start input input' output output' end) (sym (is seen)) talk
+talk_closed seat start input input' output output' (Err fault) movie talk is = talk
+
+-- what is left and the end, named otherwise
+pub talk_ended : (left other : Option MovieContent) (start : DraftedState) (input input' output output' : Option (List ℕ)) (result end : Result (Unit {0}) ToolFault) → other ≡ left → end ≡ result → IsTalkLeaving left start input input' output output' result
+    → IsTalkLeaving other start input input' output output' end
+talk_ended left other start input input' output output' result end is ends talk =
+    subst (λ (e : Result (Unit {0}) ToolFault). IsTalkLeaving other start input input' output output' e) (sym ends) (subst (λ (m : Option MovieContent). IsTalkLeaving m start input input' output output' result) (sym is) talk)
 
 -- ---- over a cartridge
 
-pub cart_unread : (cart cart' : Option (List ℕ)) (fault : ReadFault) (e : ToolFault) → StopsReading cart cart' fault → e ≡ Read fault → StartsTalk (IsCartTalk cart cart') (Err e)
-cart_unread cart cart' fault e stops is = λ input output. inl (fault, ap Err is, stops, untouched input output)
+pub cart_unread : (cart cart' : Option (List ℕ)) (fault : ReadFault) (e : ToolFault) → StopsReading cart cart' fault → e ≡ Read fault → StartsTalk (λ left. IsCartTalkLeaving left cart cart') (Err e)
+cart_unread cart cart' fault e stops is = λ input output. inl (fault, ap Err is, stops, (untouched input output, refl))
 
 pub cart_unmade : (cart cart' : Option (List ℕ)) (read image : List ℕ) (fault : RunFault) (e : ToolFault) → IsReadWhole cart cart' read → image ≡ read → IsImageFault image fault → e ≡ Run fault
-    → StartsTalk (IsCartTalk cart cart') (Err e)
+    → StartsTalk (λ left. IsCartTalkLeaving left cart cart') (Err e)
 cart_unmade cart cart' read image fault e whole same why is = λ input output.
-    inr (image, subst (IsReadWhole cart cart') (sym same) whole, inl (fault, ap Err is, why, untouched input output))
+    inr (image, subst (IsReadWhole cart cart') (sym same) whole, inl (fault, ap Err is, why, (untouched input output, refl)))
 
 pub cart_started : (cart cart' : Option (List ℕ)) (read image : List ℕ) (movie : MovieContent) → IsReadWhole cart cart' read → image ≡ read → is_cart_size (length image) ≡ true → movie ≡ record { cart = image; inputs = [] }
-    → StartsTalk (IsCartTalk cart cart') (Ok movie)
-cart_started cart cart' read image movie whole same long is = λ input input' output output' end talk.
+    → StartsTalk (λ left. IsCartTalkLeaving left cart cart') (Ok movie)
+cart_started cart cart' read image movie whole same long is = λ left input input' output output' end talk.
     inr (
       image,
       subst (IsReadWhole cart cart') (sym same) whole,
-      inr (long, subst (λ (m : MovieContent). IsTalk (talk_state_from (Some m)) input input' output output' end) is talk),
+      inr (long, subst (λ (m : MovieContent). IsTalkLeaving left (talk_state_from (Some m)) input input' output output' end) is talk),
     )
 
 -- ---- over a movie
 
-pub movie_unread : (cart cart' movie movie' input output : Option (List ℕ)) (end : ToolFault) → ReadsMovie cart cart' movie movie' (Err end) → IsMovieTalk cart cart' movie movie' input input output output (Err end)
-movie_unread cart cart' movie movie' input output end (inl (fault, is, stops)) = inl (fault, ap Err is, stops, untouched input output)
-movie_unread cart cart' movie movie' input output end (inr (image, said, whole, whole', (fault, is, why))) = inr (image, said, whole, whole', inl (fault, ap Err is, why, untouched input output))
+pub movie_unread : (cart cart' movie movie' input output : Option (List ℕ)) (end : ToolFault) → ReadsMovie cart cart' movie movie' (Err end)
+    → IsMovieTalkLeaving None cart cart' movie movie' input input output output (Err end)
+movie_unread cart cart' movie movie' input output end (inl (fault, is, stops)) = inl (fault, ap Err is, stops, (untouched input output, refl))
+movie_unread cart cart' movie movie' input output end (inr (image, said, whole, whole', (fault, is, why))) = inr (image, said, whole, whole', inl (fault, ap Err is, why, (untouched input output, refl)))
 
-pub movie_read : (cart cart' movie movie' input input' output output' : Option (List ℕ)) (content : MovieContent) (end : Result (Unit {0}) ToolFault) → ReadsMovie cart cart' movie movie' (Ok content)
-    → IsTalk (talk_state_from (Some content)) input input' output output' end → IsMovieTalk cart cart' movie movie' input input' output output' end
-movie_read cart cart' movie movie' input input' output output' content end (image, said, whole, whole', is) talk = inr (image, said, whole, whole', inr (content, is, talk))
+pub movie_read : (left : Option MovieContent) (cart cart' movie movie' input input' output output' : Option (List ℕ)) (content : MovieContent) (end : Result (Unit {0}) ToolFault) → ReadsMovie cart cart' movie movie' (Ok content)
+    → IsTalkLeaving left (talk_state_from (Some content)) input input' output output' end → IsMovieTalkLeaving left cart cart' movie movie' input input' output output' end
+movie_read left cart cart' movie movie' input input' output output' content end (image, said, whole, whole', is) talk = inr (image, said, whole, whole', inr (content, is, talk))
+
+-- ---- without what is left
+
+pub cart_talk : (left : Option MovieContent) (cart cart' input input' output output' : Option (List ℕ)) (end : Result (Unit {0}) ToolFault) → IsCartTalkLeaving left cart cart' input input' output output' end
+    → IsCartTalk cart cart' input input' output output' end
+cart_talk left cart cart' input input' output output' end (inl (fault, is, stops, none)) = inl (fault, is, stops, none.0)
+cart_talk left cart cart' input input' output output' end (inr (image, whole, inl (fault, is, why, none))) = inr (image, whole, inl (fault, is, why, none.0))
+cart_talk left cart cart' input input' output output' end (inr (image, whole, inr (long, talk))) = inr (image, whole, inr (long, talk.talk))
+
+pub movie_talk : (left : Option MovieContent) (cart cart' movie movie' input input' output output' : Option (List ℕ)) (end : Result (Unit {0}) ToolFault) → IsMovieTalkLeaving left cart cart' movie movie' input input' output output' end
+    → IsMovieTalk cart cart' movie movie' input input' output output' end
+movie_talk left cart cart' movie movie' input input' output output' end (inl (fault, is, stops, none)) = inl (fault, is, stops, none.0)
+movie_talk left cart cart' movie movie' input input' output output' end (inr (image, said, whole, whole', inl (fault, is, why, none))) = inr (image, said, whole, whole', inl (fault, is, why, none.0))
+movie_talk left cart cart' movie movie' input input' output output' end (inr (image, said, whole, whole', inr (content, is, talk))) = inr (image, said, whole, whole', inr (content, is, talk.talk))

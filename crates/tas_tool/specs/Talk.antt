@@ -34,7 +34,7 @@ use Rattle.tas_seat.specs.Edits.{requested_edits, made_between}
 use Rattle.tas_seat.specs.Seats.{entries_from, most_entries}
 use Rattle.tas_seat.specs.HistoryText.{history_reply_text}
 use Rattle.tas_seat.specs.Talk.{IsQuit, AsksToLook, IsAnswerCutOff, last_answer}
-use Rattle.tas_tool.specs.Scripts.{standing_at_start}
+use Rattle.tas_tool.specs.Scripts.{IsUnmade, standing_at_start}
 use Rattle.tas_tool.specs.MovieScripts.{edits_of_movie, standing_of_movie}
 
 -- ---- the answer to one line
@@ -181,6 +181,34 @@ pub record IsTalk (start : DraftedState) (input input' output output' : Option (
   pub left : Consumes input input' (lines_of exchanges ++ rest)
   pub ends : TalkEnds state rest (answers_of exchanges) input' output output' result
 
+-- ---- the movie that a conversation leaves
+
+-- nothing was read of the input, and nothing written
+pub record IsUntouched (input input' output output' : Option (List ℕ)) : Type 0 where
+  pub unread : input' ≡ input
+  pub unwritten : Keeps output output'
+
+-- the first line of the rest was carried out, too, and left this movie; its answer isn't out whole
+abbrev pub IsCarriedOut : DraftedState → (rest : List ℕ) → MovieContent → Type 0
+IsCarriedOut state rest movie = (exchange : Exchange) × (more : List ℕ) × IsExchange state exchange × (rest ≡ line exchange.said ++ more) × (movie ≡ exchange.next.state.stands.movie)
+
+-- the movie that is left where a conversation ends so: what its lines made, and what the line made whose answer wasn't written, or for which memory was refused, where that
+-- was carried out. A draft that is open is lost
+abbrev pub LeavesMovie : DraftedState → (rest : List ℕ) → MovieContent → Result (Unit {0}) ToolFault → Type 0
+LeavesMovie state rest movie (Err (Run (Write written))) = IsCarriedOut state rest movie ⊎ (NoByte 10 rest × (movie ≡ state.state.stands.movie))
+LeavesMovie state rest movie (Err (Run Memory)) = IsCarriedOut state rest movie ⊎ (movie ≡ state.state.stands.movie)
+LeavesMovie state rest movie _ = movie ≡ state.state.stands.movie
+
+-- what is left: a movie, or none where the conversation didn't begin, since memory or a place was refused
+abbrev pub IsLeft : DraftedState → (rest : List ℕ) → Option MovieContent → (input input' output output' : Option (List ℕ)) → Result (Unit {0}) ToolFault → Type 0
+IsLeft state rest (Some movie) input input' output output' result = LeavesMovie state rest movie result
+IsLeft state rest None input input' output output' result = IsUntouched input input' output output' × ((fault : RunFault) × (result ≡ Err (Run fault)) × IsUnmade fault)
+
+-- a conversation, and what it leaves
+pub record IsTalkLeaving (left : Option MovieContent) (start : DraftedState) (input input' output output' : Option (List ℕ)) (result : Result (Unit {0}) ToolFault) : Type 0 where
+  pub talk : IsTalk start input input' output output' result
+  pub left_is : IsLeft talk.state talk.rest left input input' output output' result
+
 -- ---- conversations over a cartridge or a movie
 
 -- these edits are made, nothing is kept yet, and no draft is open
@@ -192,29 +220,43 @@ abbrev pub talk_state_from : Option MovieContent → DraftedState
 talk_state_from None = fresh_talk_state standing_at_start []
 talk_state_from (Some movie) = fresh_talk_state (standing_of_movie movie) (edits_of_movie (Unit {0}) movie)
 
--- nothing was read of the input, and nothing written
-pub record IsUntouched (input input' output output' : Option (List ℕ)) : Type 0 where
-  pub unread : input' ≡ input
-  pub unwritten : Keeps output output'
-
 -- the cartridge is loaded, and no inputs are put in
 abbrev pub cart_talk_state : List ℕ → DraftedState
 cart_talk_state image = talk_state_from (Some (record { cart = image; inputs = [] }))
 
--- `tas talk CART`: reading the cartridge stopped, or its size is wrong, and the conversation didn't begin; or it goes on from
--- the cartridge
-abbrev pub IsCartTalk : (cart cart' input input' output output' : Option (List ℕ)) → Result (Unit {0}) ToolFault → Type 0
-IsCartTalk cart cart' input input' output output' result =
-    ((fault : ReadFault) × (result ≡ Err (Read fault)) × StopsReading cart cart' fault × IsUntouched input input' output output')
-    ⊎ ((image : List ℕ) × IsReadWhole cart cart' image
-    × (((fault : RunFault) × (result ≡ Err (Run fault)) × IsImageFault image fault × IsUntouched input input' output output')
-    ⊎ ((is_cart_size (length image) ≡ true) × IsTalk (cart_talk_state image) input input' output output' result)))
+-- how something ends that reads lines and writes answers, from what its reader has and its writer holds before to what they have and hold afterwards
+abbrev pub LinesRun : Type 1
+LinesRun = (input input' output output' : Option (List ℕ)) → Result (Unit {0}) ToolFault → Type 0
 
--- `tas talk CART MOVIE`: reading the two stopped, or they make no movie, and the conversation didn't begin; or it goes on from
--- the movie
-abbrev pub IsMovieTalk : (cart cart' movie movie' input input' output output' : Option (List ℕ)) → Result (Unit {0}) ToolFault → Type 0
-IsMovieTalk cart cart' movie movie' input input' output output' result =
-    ((fault : ReadFault) × (result ≡ Err (Read fault)) × StopsReadingTwo cart cart' movie movie' fault × IsUntouched input input' output output')
+-- reading the cartridge stopped, or its size is wrong, and the conversation didn't begin; or it goes on from the cartridge
+abbrev pub OverCart : (IsUnbegun : (input input' output output' : Option (List ℕ)) → Type 0) → (IsSuch : DraftedState → LinesRun) → (cart cart' : Option (List ℕ)) → LinesRun
+OverCart IsUnbegun IsSuch cart cart' input input' output output' result =
+    ((fault : ReadFault) × (result ≡ Err (Read fault)) × StopsReading cart cart' fault × IsUnbegun input input' output output')
+    ⊎ ((image : List ℕ) × IsReadWhole cart cart' image
+    × (((fault : RunFault) × (result ≡ Err (Run fault)) × IsImageFault image fault × IsUnbegun input input' output output')
+    ⊎ ((is_cart_size (length image) ≡ true) × IsSuch (cart_talk_state image) input input' output output' result)))
+
+-- reading the cartridge and the movie stopped, or they make no movie, and the conversation didn't begin; or it goes on from the movie
+abbrev pub OverMovie : (IsUnbegun : (input input' output output' : Option (List ℕ)) → Type 0) → (IsSuch : DraftedState → LinesRun) → (cart cart' movie movie' : Option (List ℕ)) → LinesRun
+OverMovie IsUnbegun IsSuch cart cart' movie movie' input input' output output' result =
+    ((fault : ReadFault) × (result ≡ Err (Read fault)) × StopsReadingTwo cart cart' movie movie' fault × IsUnbegun input input' output output')
     ⊎ ((image : List ℕ) × (said : List ℕ) × IsReadWhole cart cart' image × IsReadWhole movie movie' said
-    × (((fault : RunFault) × (result ≡ Err (Run fault)) × IsMovieFault image said fault × IsUntouched input input' output output')
-    ⊎ ((content : MovieContent) × IsMovieOf image said content × IsTalk (talk_state_from (Some content)) input input' output output' result)))
+    × (((fault : RunFault) × (result ≡ Err (Run fault)) × IsMovieFault image said fault × IsUnbegun input input' output output')
+    ⊎ ((content : MovieContent) × IsMovieOf image said content × IsSuch (talk_state_from (Some content)) input input' output output' result)))
+
+-- `tas talk CART`, and `tas talk CART MOVIE`
+abbrev pub IsCartTalk : (cart cart' : Option (List ℕ)) → LinesRun
+IsCartTalk cart cart' input input' output output' result = OverCart IsUntouched IsTalk cart cart' input input' output output' result
+
+abbrev pub IsMovieTalk : (cart cart' movie movie' : Option (List ℕ)) → LinesRun
+IsMovieTalk cart cart' movie movie' input input' output output' result = OverMovie IsUntouched IsTalk cart cart' movie movie' input input' output output' result
+
+-- the same with what they leave, which is no movie where the conversation didn't begin
+abbrev pub IsUnbegun : Option MovieContent → (input input' output output' : Option (List ℕ)) → Type 0
+IsUnbegun left input input' output output' = IsUntouched input input' output output' × (left ≡ None)
+
+abbrev pub IsCartTalkLeaving : Option MovieContent → (cart cart' : Option (List ℕ)) → LinesRun
+IsCartTalkLeaving left cart cart' input input' output output' result = OverCart (IsUnbegun left) (IsTalkLeaving left) cart cart' input input' output output' result
+
+abbrev pub IsMovieTalkLeaving : Option MovieContent → (cart cart' movie movie' : Option (List ℕ)) → LinesRun
+IsMovieTalkLeaving left cart cart' movie movie' input input' output output' result = OverMovie (IsUnbegun left) (IsTalkLeaving left) cart cart' movie movie' input input' output output' result

@@ -28,7 +28,7 @@ pub use exporting::export_run;
 pub use filming::film_run;
 pub use movie_scripting::movie_script_run;
 pub use scripting::script_run;
-pub use talk_runs::{cart_talk_run, movie_talk_run, talk_run};
+pub use talk_runs::{Talked, cart_talk_run, movie_talk_run, talk_run};
 pub use tas_desk::MAX_SEATS;
 pub use tas_engines::{
     INPUT_LIMIT, ReadFault, RunFault, SeatFault, ToolFault, check_run, shot_run, trace_run,

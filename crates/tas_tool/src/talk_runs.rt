@@ -1,26 +1,51 @@
 //! `tas talk`.
+//!
+//! A conversation leaves a movie whatever ended it: what was answered isn't lost by a client that is gone. It leaves none
+//! where it didn't begin: then nothing may be replaced.
 
-ghost use Rattle.std.specs.Prelude.{◌≡◌, [], true, length, None, MatchResult};
+ghost use Rattle.std.specs.Prelude.{◌≡◌, [], true, length, Err, None, MatchResult};
 ghost use Rattle.vcs_inputs.specs.Cart.{is_cart_size};
 ghost use Rattle.tas_desk.specs.Seats.{name_of};
 ghost use Rattle.tas_engines.specs.Tracing.{IsImageFault};
 ghost use Rattle.tas_movie.specs.Content.{blank_movie};
-ghost use Rattle.tas_tool.specs.Talk.{talk_state_from, IsCartTalk, IsMovieTalk, IsTalk};
-ghost use Rattle.tas_tool.specs.Inside.Alone.{SeesOwn, StartsTalk};
+ghost use Rattle.tas_tool.specs.Talk.{talk_state_from, IsCartTalkLeaving, IsMovieTalkLeaving, IsTalkLeaving};
+ghost use Rattle.tas_tool.specs.Inside.Alone.{end_of, left_of, EndsMade, SeesOwn, StartsTalk};
 
 use crate::making::{put_movie, read_movie};
 use crate::opening::open_alone;
-use std::alloc::Allocator;
+use std::alloc::{Allocator, Global};
 use std::io::{Read, Write};
 use std::marker::Brand;
 use std::sync::Wait;
-use tas_desk::{CloseOnDrop, Desk, Name, Seat, Unopened};
+use tas_desk::{CloseOnDrop, Closed, Desk, Name, Seat, Unopened};
 use tas_engines::{RunFault, ToolFault, read_input};
 use tas_movie::Movie;
 use tas_seat::converse;
 use vcs_machine::Cart;
 
-/// Gives a desk without edits its movie, where there is one, and answers lines.
+/// How a conversation ended, and the movie that it left.
+#[derive(Drop)]
+pub struct Talked<A: Allocator = Global> {
+    /// How it ended.
+    pub end: Result<(), ToolFault>,
+    /// The movie that its edits have made; `None` where it didn't begin.
+    pub movie: Option<Movie<A>>,
+}
+
+impl<A: Allocator> Talked<A> {
+    /// A conversation that didn't begin.
+    fn unbegun(fault: ToolFault) -> Talked<A>
+        ensures end { result.end ≡ Err fault }
+        ensures movie { result.movie ≡ None }
+    {
+        Talked {
+            end: Err(fault),
+            movie: None,
+        }
+    }
+}
+
+/// Gives a desk without edits its movie, where there is one, and answers lines. An error where the movie isn't made.
 fn talk_made<N: Name, C: CloseOnDrop, A: Allocator + Copy, T: Wait, R: Read, W: Write>(
     rt: &T,
     alloc: A,
@@ -29,21 +54,38 @@ fn talk_made<N: Name, C: CloseOnDrop, A: Allocator + Copy, T: Wait, R: Read, W: 
     movie: Option<Movie<A>>,
     input: &mut R,
     output: &mut W,
-) -> Result<(), ToolFault>
+) -> Result<Result<(), ToolFault>, RunFault>
     requires first { (seat.old.number ≡ 0) × (seat.old.made ≡ 0) × (seat.old.front ≡ []) }
     requires zone { (seat.old.zone.movie ≡ blank_movie) × (seat.old.zone.states ≡ []) }
     ensures number { seat.new.number ≡ 0 }
     ensures talk { SeesOwn seat.new
-        → IsTalk (talk_state_from movie) (R.remaining input.old) (R.remaining input.new)
+        → EndsMade seat.new (talk_state_from movie) (R.remaining input.old) (R.remaining input.new)
         (W.contents output.old) (W.contents output.new) result }
 {
     let Some(movie) = movie else {
-        return converse(rt, alloc, desk, seat, input, output);
+        return Ok(converse(rt, alloc, desk, seat, input, output));
     };
     put_movie(rt, alloc, desk, seat, &movie)?;
     // The desk has copies of its cartridge and inputs, and a conversation may be long.
     drop(movie);
-    converse(rt, alloc, desk, seat, input, output)
+    Ok(converse(rt, alloc, desk, seat, input, output))
+}
+
+/// What a conversation left on a desk that was closed so.
+fn closed_talk<A: Allocator>(
+    made: Result<Result<(), ToolFault>, RunFault>,
+    closed: Closed<A>,
+) -> Talked<A>
+    ensures end { result.end ≡ end_of made }
+    ensures movie { result.movie ≡ left_of made closed.movie }
+{
+    match made {
+        Ok(end) => Talked {
+            end,
+            movie: Some(closed.movie),
+        },
+        Err(fault) => Talked::unbegun(ToolFault::Run(fault)),
+    }
 }
 
 /// Answers lines on a desk of one seat, from a movie on where there is one, and closes the desk. That nobody else made an edit is
@@ -55,17 +97,22 @@ fn talk_on<N: Name, A: Allocator + Copy, T: Wait, R: Read, W: Write>(
     movie: Option<Movie<A>>,
     input: &mut R,
     output: &mut W,
-) -> Result<(), ToolFault>
+) -> Talked<A>
     requires name { unopened ≡ name_of N.registry N.name N.parts }
     requires one { unopened.seats ≡ 1 }
-    ensures { IsTalk (talk_state_from movie) (R.remaining input.old) (R.remaining input.new)
-        (W.contents output.old) (W.contents output.new) result }
+    ensures { IsTalkLeaving result.movie (talk_state_from movie)
+        (R.remaining input.old) (R.remaining input.new)
+        (W.contents output.old) (W.contents output.new) result.end }
 {
-    let (desk, mut seats) = open_alone::<N, A, T>(rt, alloc, unopened)?;
-    let seat = &mut seats.as_mut_slice()[0];
-    let end = talk_made(rt, alloc, &desk, seat, movie, input, output);
-    drop(desk.close(rt, seats));
-    end
+    match open_alone::<N, A, T>(rt, alloc, unopened) {
+        Ok((desk, mut seats)) => {
+            let seat = &mut seats.as_mut_slice()[0];
+            let made = talk_made(rt, alloc, &desk, seat, movie, input, output);
+            let closed = desk.close(rt, seats);
+            closed_talk(made, closed)
+        }
+        Err(refused) => Talked::unbegun(ToolFault::Run(refused)),
+    }
 }
 
 /// Answers lines, from a movie on where there is one.
@@ -75,12 +122,13 @@ fn talk_from<A: Allocator + Copy, T: Wait, R: Read, W: Write>(
     movie: Option<Movie<A>>,
     input: &mut R,
     output: &mut W,
-) -> Result<(), ToolFault>
-    ensures { IsTalk (talk_state_from movie) (R.remaining input.old) (R.remaining input.new)
-        (W.contents output.old) (W.contents output.new) result }
+) -> Talked<A>
+    ensures { IsTalkLeaving result.movie (talk_state_from movie)
+        (R.remaining input.old) (R.remaining input.new)
+        (W.contents output.old) (W.contents output.new) result.end }
 {
     let Ok(unopened) = Unopened::new(alloc, 1) else {
-        return Err(ToolFault::Run(RunFault::Memory));
+        return Talked::unbegun(ToolFault::Run(RunFault::Memory));
     };
     talk_on::<Brand, A, T, R, W>(rt, alloc, unopened, movie, input, output)
 }
@@ -104,7 +152,8 @@ fn read_blank_movie<A: Allocator + Copy, C: Read>(
     alloc: A,
     cart: &mut C,
 ) -> Result<Movie<A>, ToolFault>
-    ensures { StartsTalk (IsCartTalk (C.remaining cart.old) (C.remaining cart.new)) result }
+    ensures { StartsTalk
+        (λ left. IsCartTalkLeaving left (C.remaining cart.old) (C.remaining cart.new)) result }
 {
     let image = read_input(alloc, cart)?;
     Ok(blank_movie_of(alloc, image.as_slice())?)
@@ -114,7 +163,7 @@ fn read_blank_movie<A: Allocator + Copy, C: Read>(
 /// is read. The lines are those of a [`Request`](tas_language::Request): a script's, edits that depend on the movie's frames, looks,
 /// `share`, `history`, those about drafts, and `quit`. Another line, or one of more than [`MAX_LINE`](tas_language::MAX_LINE) bytes, is
 /// answered `unknown` and changes nothing, and so is what comes after the last newline. It runs on a desk of one seat, and ends with
-/// `quit` or with the input.
+/// `quit` or with the input. The movie that its edits have made comes back, whatever ended it; a draft that is open is lost.
 ///
 /// Faults: `Read` where a read failed, with each whole line answered; `Write`, with the first bytes of the answers written, and how
 /// many; `NoEntry`, and `Memory` where it is refused for a line or for its reply, with the lines before answered; `NoPlace` and
@@ -124,7 +173,7 @@ pub fn talk_run<A: Allocator + Copy, T: Wait, R: Read, W: Write>(
     alloc: A,
     input: &mut R,
     output: &mut W,
-) -> Result<(), ToolFault>
+) -> Talked<A>
     // A conversation is one of tas_seat on a desk of one seat: each line is answered at what the lines before it made
     // and left. `history FROM` is answered with up to 256 of the edits that these lines made, in order, from number
     // FROM on, or `out of memory`.
@@ -147,8 +196,13 @@ pub fn talk_run<A: Allocator + Copy, T: Wait, R: Read, W: Write>(
     // Refused: none, tas_seat has them.
     // A conversation never ends with `Foreign`: its own edits are all that the desk has when it is closed.
     // Refused: foreign_at_the_end_of_a_conversation.
-    ensures { IsTalk (talk_state_from None) (R.remaining input.old) (R.remaining input.new)
-        (W.contents output.old) (W.contents output.new) result }
+    // The movie that is left is the one that the answered lines made, and that of the line whose answer wasn't written, or for
+    // which memory was refused, where it was carried out. There is none only where memory or a place was refused before
+    // the first line, with nothing read or written.
+    // Refused: conversation_leaves_no_movie, movie_is_left_where_the_conversation_did_not_begin.
+    ensures { IsTalkLeaving result.movie (talk_state_from None)
+        (R.remaining input.old) (R.remaining input.new)
+        (W.contents output.old) (W.contents output.new) result.end }
 {
     talk_from(rt, alloc, None, input, output)
 }
@@ -164,16 +218,19 @@ pub fn cart_talk_run<A: Allocator + Copy, T: Wait, C: Read, R: Read, W: Write>(
     cart: &mut C,
     input: &mut R,
     output: &mut W,
-) -> Result<(), ToolFault>
+) -> Talked<A>
     // Over a cartridge, or a movie, a conversation does the same as over none, from its movie and 2 edits on, which
     // `history` has before those of the lines: the cartridge is loaded, and the inputs, none of a cartridge alone, are
     // put in at 0. Faults of the files come first, with nothing read of the input and nothing written.
     // Refused: blank_cartridge_stands_under_a_conversation.
-    ensures { IsCartTalk (C.remaining cart.old) (C.remaining cart.new) (R.remaining input.old)
-        (R.remaining input.new) (W.contents output.old) (W.contents output.new) result }
+    ensures { IsCartTalkLeaving result.movie (C.remaining cart.old) (C.remaining cart.new)
+        (R.remaining input.old) (R.remaining input.new)
+        (W.contents output.old) (W.contents output.new) result.end }
 {
-    let movie = read_blank_movie(alloc, cart)?;
-    talk_from(rt, alloc, Some(movie), input, output)
+    match read_blank_movie(alloc, cart) {
+        Ok(movie) => talk_from(rt, alloc, Some(movie), input, output),
+        Err(fault) => Talked::unbegun(fault),
+    }
 }
 
 /// Reads a cartridge and a movie text, and then talks as [`talk_run`] does, but from this movie on: before the first line two edits
@@ -188,12 +245,15 @@ pub fn movie_talk_run<A: Allocator + Copy, T: Wait, C: Read, M: Read, R: Read, W
     movie: &mut M,
     input: &mut R,
     output: &mut W,
-) -> Result<(), ToolFault>
+) -> Talked<A>
     // Refused: cartridge_and_movie_of_a_conversation_are_swapped*.
-    ensures { IsMovieTalk (C.remaining cart.old) (C.remaining cart.new) (M.remaining movie.old)
-        (M.remaining movie.new) (R.remaining input.old) (R.remaining input.new)
-        (W.contents output.old) (W.contents output.new) result }
+    ensures { IsMovieTalkLeaving result.movie (C.remaining cart.old) (C.remaining cart.new)
+        (M.remaining movie.old) (M.remaining movie.new)
+        (R.remaining input.old) (R.remaining input.new)
+        (W.contents output.old) (W.contents output.new) result.end }
 {
-    let movie = read_movie(alloc, cart, movie)?;
-    talk_from(rt, alloc, Some(movie), input, output)
+    match read_movie(alloc, cart, movie) {
+        Ok(movie) => talk_from(rt, alloc, Some(movie), input, output),
+        Err(fault) => Talked::unbegun(fault),
+    }
 }

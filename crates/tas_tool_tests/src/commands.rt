@@ -28,7 +28,7 @@ pub fn answer_lines<R: Wait, I: Read, W: Write>(
 ) -> Result<(), ToolFault> {
     match command {
         LineCommand::Script => script_run(rt, alloc, input, output),
-        LineCommand::Talk => talk_run(rt, alloc, input, output),
+        LineCommand::Talk => talk_run(rt, alloc, input, output).end,
     }
 }
 
@@ -101,7 +101,7 @@ pub fn talk_from_cart<R: Wait, I: Read>(
     output: &mut Vec<u8>,
 ) -> Result<(), ToolFault> {
     let mut cart = cart;
-    cart_talk_run(rt, alloc, &mut cart, input, output)
+    cart_talk_run(rt, alloc, &mut cart, input, output).end
 }
 
 /// Talks from a movie.
@@ -113,5 +113,5 @@ pub fn talk_from_movie<R: Wait, C: Read, M: Read, I: Read>(
     input: &mut I,
     output: &mut Vec<u8>,
 ) -> Result<(), ToolFault> {
-    movie_talk_run(rt, alloc, cart, movie, input, output)
+    movie_talk_run(rt, alloc, cart, movie, input, output).end
 }

@@ -67,6 +67,8 @@ mod talk_file_tests;
 #[cfg(test)]
 mod talk_look_tests;
 #[cfg(test)]
+mod talk_output_tests;
+#[cfg(test)]
 mod talk_strip_tests;
 #[cfg(test)]
 mod talk_tests;

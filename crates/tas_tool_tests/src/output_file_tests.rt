@@ -18,6 +18,8 @@ const EDIT: &[&str] = &["edit", "game.bin", "in0", "-o", "new"];
 
 const DIFF: &[&str] = &["diff", "game.bin", "other", "-o", "new"];
 
+const TALK: &[&str] = &["talk", "game.bin", "other", "-o", "new"];
+
 /// The file is that of standard input.
 const SAME: &[Ordinary<'static>] = &[("new", (1, 1, 99)), ("/dev/stdin", (1, 1, 99))];
 
@@ -28,8 +30,8 @@ const NO_FRAMES: &[u8] =
 /// The words, which of them are ordinary files, and the line, by hand.
 type Refusal<'a> = (&'a [&'a str], &'a [Ordinary<'a>], &'a [u8]);
 
-/// `new` replaces no file with bytes, and `diff` not the newer movie; of two faults that of one file comes first.
-static REFUSALS: [Refusal<'static>; 5] = [
+/// `new` replaces no file with bytes, nor does a conversation without a movie, and `diff` not the newer movie; of two faults that of one file comes first.
+static REFUSALS: [Refusal<'static>; 10] = [
     (DIFF, SAME, b"fault: FILE: same file as standard input\n"),
     (
         DIFF,
@@ -42,6 +44,27 @@ static REFUSALS: [Refusal<'static>; 5] = [
         b"fault: FILE: same file as SCRIPT\n",
     ),
     (NEW, &[("new", (1, 1, 1))], b"fault: FILE: not empty\n"),
+    (TALK, SAME, b"fault: FILE: same file as standard input\n"),
+    (
+        TALK,
+        &[("new", (1, 1, 0)), ("/dev/stdout", (1, 1, 0))],
+        b"fault: FILE: same file as standard output\n",
+    ),
+    (
+        TALK,
+        &[("new", (1, 1, 9)), ("game.bin", (1, 1, 9))],
+        b"fault: FILE: same file as CART\n",
+    ),
+    (
+        &["talk", "game.bin", "-o", "new"],
+        &[("new", (1, 1, 1))],
+        b"fault: FILE: not empty\n",
+    ),
+    (
+        &["talk", "-o", "new"],
+        &[("new", (1, 1, 1))],
+        b"fault: FILE: not empty\n",
+    ),
     (
         NEW,
         &[("new", (1, 1, 9)), ("game.bin", (1, 1, 9))],

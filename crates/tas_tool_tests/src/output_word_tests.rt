@@ -9,7 +9,7 @@ use tas_program::read_words;
 /// The words, the names of files and the numbers in them, and the file of the output, by hand.
 type Row<'a> = (&'a [&'a str], &'a [&'a str], &'a [usize], Option<&'a str>);
 
-static ROWS: [Row<'static>; 14] = [
+static ROWS: [Row<'static>; 17] = [
     (&["migrate", "a", "-o", "b"], &["a"], &[], Some("b")),
     (&["migrate", "-o", "b", "a"], &["a"], &[], Some("b")),
     (&["migrate", "--output", "b", "a"], &["a"], &[], Some("b")),
@@ -39,6 +39,9 @@ static ROWS: [Row<'static>; 14] = [
         Some("c"),
     ),
     (&["edit", "a", "b", "-o", "a"], &["a", "b"], &[], Some("a")),
+    (&["talk", "-o", "a"], &[], &[], Some("a")),
+    (&["talk", "a", "--output=b"], &["a"], &[], Some("b")),
+    (&["talk", "a", "b", "-o", "b"], &["a", "b"], &[], Some("b")),
 ];
 
 #[test]

@@ -46,7 +46,7 @@ static TIPS: [Refused<'static>; 9] = [
     ),
     (
         &["talk", "game.bin", "game.movie", "lines"],
-        b"error: unexpected argument 'lines' found\n\n  tip: the conversation is read from standard input: tas talk game.bin game.movie < lines\n\nUsage: tas talk [CART] [MOVIE] < LINES\n\nFor more information, try '--help'.\n",
+        b"error: unexpected argument 'lines' found\n\n  tip: the conversation is read from standard input: tas talk game.bin game.movie < lines\n\nUsage: tas talk [OPTIONS] [CART] [MOVIE] < LINES\n\nFor more information, try '--help'.\n",
     ),
 ];
 

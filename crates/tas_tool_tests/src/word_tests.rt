@@ -323,7 +323,7 @@ static HELPS: [Shown<'static>; 18] = [
     ),
     (
         &["talk", "--help"],
-        b"Answers lines, each before the next one is read\n\nUsage: tas talk [CART] [MOVIE] < LINES\n",
+        b"Answers lines, each before the next one is read\n\nUsage: tas talk [OPTIONS] [CART] [MOVIE] < LINES\n",
     ),
     (
         &["export", "--help"],

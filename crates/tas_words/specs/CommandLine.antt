@@ -88,7 +88,7 @@ output_rule name = record (new_rule name) {
   value_names = 1;
 }
 
--- the file that is replaced by the output
+-- the file that is replaced by the output, or by the movie that a conversation leaves
 abbrev pub file_output_rule : Rule
 file_output_rule = output_rule (codes "FILE")
 
@@ -170,7 +170,7 @@ later_shapes =
     ∷ shape_with (codes "cut") (cart_rule ∷ frame_rule (codes "FROM") ∷ frame_rule (codes "TO") ∷ file_output_rule ∷ [])
     ∷ shape_with (codes "diff") (cart_rule ∷ file_rule (codes "OLD") ∷ file_output_rule ∷ [])
     ∷ shape_with (codes "script") (flag_rule (codes "CART") (codes "cart") ∷ flag_rule (codes "MOVIE") (codes "movie") ∷ [])
-    ∷ shape_with (codes "talk") (may_word_rule (codes "CART") ∷ may_word_rule (codes "MOVIE") ∷ [])
+    ∷ shape_with (codes "talk") (may_word_rule (codes "CART") ∷ may_word_rule (codes "MOVIE") ∷ file_output_rule ∷ [])
     ∷ []
 
 -- the last one

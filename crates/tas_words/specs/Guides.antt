@@ -107,7 +107,7 @@ later_guides =
     (Some (codes "the newer movie is read from standard input: tas diff game.bin old.movie < new.movie")) (false ∷ false ∷ [])
     ∷ guide (codes "script") (codes "tas script [OPTIONS] < SCRIPT")
     (Some (codes "the script is read from standard input: tas script < game.script")) []
-    ∷ guide (codes "talk") (codes "tas talk [CART] [MOVIE] < LINES")
+    ∷ guide (codes "talk") (codes "tas talk [OPTIONS] [CART] [MOVIE] < LINES")
     (Some (codes "the conversation is read from standard input: tas talk game.bin game.movie < lines")) (false ∷ false ∷ [])
     ∷ []
 

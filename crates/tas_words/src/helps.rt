@@ -228,13 +228,17 @@ answered 'unknown' and changes nothing. With CART it starts from this cartridge,
 this movie. That counts as two edits. Outside a draft a step from a picture to the next one plays
 one frame. Two of CART, MOVIE, standard input and standard output that are one ordinary file end it
 with status 2.
+With -o FILE the movie that the edits have made replaces FILE at the end, whatever ended the
+conversation; FILE may be MOVIE. A draft that is open then is lost. Without MOVIE FILE must be empty
+or not there.
 Fill a long movie by 'work' in steps, as 'work 4096', 'work 8192': each answer is the progress.
 A frame is 'RLDUF RLDUF rsbAB': right, left, down, up and fire of the left stick; the same of the
 right stick; reset, select, black and white, left difficulty A, right difficulty A. A dot in a
 letter's place means that it isn't pressed or set.
 
-Example:
-  printf 'len\\nshot 60\\nstates\\nquit\\n' | ./tas talk joystick.bin examples/joystick.movie";
+Examples:
+  printf 'len\\nshot 60\\nstates\\nquit\\n' | ./tas talk joystick.bin examples/joystick.movie
+  echo delete 60 60 | ./tas talk joystick.bin examples/joystick.movie -o short.movie";
 
 pub(crate) const DESK_HELP: &str = "\
 Up to eight programs edit one movie at the same time. Each has a pair of files, as a rule two named

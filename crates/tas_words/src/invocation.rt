@@ -16,7 +16,7 @@ use std::io;
 pub enum Invocation<'a, A: Allocator = Global> {
     /// A command.
     Do(Task<'a>),
-    /// A command whose output replaces a file.
+    /// A command whose output replaces a file; that of [`Task::Talk`] goes to standard output, and the movie that it leaves to the file.
     Save {
         /// The command.
         task: Task<'a>,

@@ -103,6 +103,12 @@ const OUTPUT: Word = Word {
     kind: WordKind::Output,
 };
 
+const LEFT: Word = Word {
+    name: "FILE",
+    help: "Replaces FILE with the movie that the conversation leaves, at its end",
+    kind: WordKind::Output,
+};
+
 /// The first of the three lists of commands: a proof over one list of all is too large.
 static FIRST_SUBCOMMANDS: [Subcommand; 10] = [
     Subcommand {
@@ -351,7 +357,7 @@ static LATER_SUBCOMMANDS: [Subcommand; 6] = [
     },
     Subcommand {
         name: "talk",
-        usage: "tas talk [CART] [MOVIE] < LINES",
+        usage: "tas talk [OPTIONS] [CART] [MOVIE] < LINES",
         tip: Some(
             "the conversation is read from standard input: tas talk game.bin game.movie < lines",
         ),
@@ -368,6 +374,7 @@ static LATER_SUBCOMMANDS: [Subcommand; 6] = [
                 help: "The file with the text of a movie to start from",
                 kind: WordKind::OptionalFile,
             },
+            LEFT,
         ],
     },
 ];

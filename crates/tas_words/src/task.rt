@@ -202,6 +202,6 @@ pub enum Task<'a> {
 pub struct Order<'a> {
     /// The task.
     pub task: Task<'a>,
-    /// The name of the file that is replaced by its output; `None` for standard output.
+    /// The name of the file that is replaced by its output, for [`Task::Talk`] by the movie that it leaves; `None` where none is.
     pub output: Option<&'a str>,
 }

@@ -1,4 +1,4 @@
-use Rattle.std.proofs.Common.{map, take, ap, ◌∙◌, arith}
+use Rattle.std.proofs.Common.{map, ap, ◌∙◌, arith}
 use lib.Seq.{take_all}
 use Rattle.tas_program.proofs.ProgramLemmas.{opened_more}
 use Rattle.tas_program.proofs.running.open_all.Goals as goal

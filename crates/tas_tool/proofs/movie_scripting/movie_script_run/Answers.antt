@@ -1,4 +1,4 @@
-use Rattle.std.proofs.Common.{ap, subst, sym, ◌∙◌, refl, inl, inr, Ok, Err, ℕ, List}
+use Rattle.std.proofs.Common.{ap, subst, sym, ◌∙◌, refl, inl, inr, Ok, Err}
 use Rattle.std.proofs.KnownBytes.{Keeps-refl}
 use Rattle.std.proofs.lemmas.Result.{err_from_is_err_and}
 use Rattle.tas_engines.specs.Input.{IsReadWhole}

@@ -1,10 +1,7 @@
-use Rattle.std.proofs.lemmas.Result.{err_from_is_err_and}
 use Rattle.tas_tool.proofs.talk_runs.cart_talk_run.Goals as goal
 
-pub returns-in_err-movie : goal.returns-in_err-movie
-returns-in_err-movie g c =
-    let p = err_from_is_err_and c.from_residual.result c.from_residual.ensures.1 in
-    rw (p.1, p.2) (c.in_err-movie.ensures _ _)
+pub returns-in-Err : goal.returns-in-Err
+returns-in-Err g c = rw (c.unbegun.ensures.movie, c.unbegun.ensures.end) (c.in-Err.ensures _ _)
 
-pub returns : goal.returns
-returns g c = c.in_ok-movie.ensures _ _ _ _ _ c.talk_from.ensures
+pub returns-in-Ok : goal.returns-in-Ok
+returns-in-Ok g c = c.in-Ok.ensures _ _ _ _ _ _ c.talk_from.ensures

@@ -13,7 +13,7 @@ returns-in_default-clause-number g c = talk_number c.args.seat.now c.converse.ne
 pub returns-in_default-clause-talk : goal.returns-in_default-clause-talk
 returns-in_default-clause-talk g c = λ own.
     let talk = own_talk c.args.seat.now c.converse.new.seat _ _ _ _ c.converse.result c.converse.ensures (omega (arith, c.requires.first.1)) own in
-    talk_as _ _ _ _ _ _ c.converse.result (first_state c.args.seat.now c.requires.first.2 c.requires.zone.0 c.requires.zone.1 ∙ ap talk_state_from (sym c.in_default.is)) talk.0
+    (talk.2, talk_as _ _ _ _ _ _ _ c.converse.result (first_state c.args.seat.now c.requires.first.2 c.requires.zone.0 c.requires.zone.1 ∙ ap talk_state_from (sym c.in_default.is)) talk.0)
 
 pub returns-in_err-put_movie-clause-talk : goal.returns-in_err-put_movie-clause-talk
 returns-in_err-put_movie-clause-talk g c = λ own.
@@ -28,4 +28,4 @@ pub returns-clause-talk : goal.returns-clause-talk
 returns-clause-talk g c = λ own.
     let holds = c.in_ok-put_movie.ensures.holds in
     let talk = own_talk c.put_movie.new.seat c.converse-2.new.seat _ _ _ _ c.converse-2.result c.converse-2.ensures (holds_seen _ _ holds) own in
-    talk_as _ _ _ _ _ _ c.converse-2.result (made_state c.args.seat.now _ _ holds talk.1 c.put_movie.ensures.zone c.requires.zone.0 c.requires.zone.1 ∙ ap talk_state_from (sym c.in-Some.is)) talk.0
+    (talk.2, talk_as _ _ _ _ _ _ _ c.converse-2.result (made_state c.args.seat.now _ _ holds talk.1 c.put_movie.ensures.zone c.requires.zone.0 c.requires.zone.1 ∙ ap talk_state_from (sym c.in-Some.is)) talk.0)
