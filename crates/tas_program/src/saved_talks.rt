@@ -183,8 +183,8 @@ pub fn save_talk<
 ) -> Result<(), TaskFault>
     // A conversation whose movie replaces a file is held as without, and its answers go to standard output. The file gets the
     // text of the movie that is left, whatever ended the conversation; where it didn't begin no file is touched. A fault of
-    // the file comes before that of the conversation; where there is none, the text was given by calls of this directory
-    // that succeeded, as `save` says.
+    // the file comes before that of the conversation; where there is none, the text was given as `save` says, as the
+    // directory states its steps.
     // Refused: movie_of_a_conversation_is_not_saved, movie_is_saved_only_after_a_good_end, fault_of_the_file_is_lost.
     ensures { SavesTalk D.steps
         (files_by (F.bytes_of folder.now) (F.held_by folder.now) (F.shown folder.now))
