@@ -6,6 +6,7 @@ pub mod TextLemmas
 pub mod NameLemmas
 pub mod ChangeLemmas
 pub mod MovieSearchLemmas
+pub mod PowerLemmas
 pub mod HeldLemmas
 pub mod LayerLemmas
 pub mod OrderLemmas

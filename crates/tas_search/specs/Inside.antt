@@ -5,3 +5,4 @@ pub mod Extremes
 pub mod Operands
 pub mod Lines
 pub mod FoundChanges
+pub mod Digits

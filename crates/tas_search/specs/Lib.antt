@@ -8,6 +8,7 @@ pub mod NamesFile
 pub mod ChoicesFile
 pub mod StickChoices
 pub mod Outcome
+pub mod Power
 pub mod GoalAnswer
 pub mod AnswerChanges
 pub mod MovieSearch

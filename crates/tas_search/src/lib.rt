@@ -18,6 +18,7 @@ mod name;
 mod names;
 mod operands;
 mod parents;
+mod power;
 mod reading_words;
 mod searching;
 mod space;
