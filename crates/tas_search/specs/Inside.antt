@@ -6,3 +6,4 @@ pub mod Operands
 pub mod Lines
 pub mod FoundChanges
 pub mod Digits
+pub mod Stops

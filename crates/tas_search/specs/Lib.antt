@@ -12,6 +12,7 @@ pub mod Power
 pub mod GoalAnswer
 pub mod AnswerChanges
 pub mod MovieSearch
+pub mod Verdict
 pub mod Best
 pub mod Extreme
 pub mod Inside

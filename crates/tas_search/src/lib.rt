@@ -23,6 +23,7 @@ mod reading_words;
 mod searching;
 mod space;
 mod starting;
+mod verdict;
 mod word;
 
 pub use changes::changes_write_the_sequence;
