@@ -7,6 +7,7 @@ pub mod NameLemmas
 pub mod ChangeLemmas
 pub mod MovieSearchLemmas
 pub mod PowerLemmas
+pub mod SearchLemmas
 pub mod HeldLemmas
 pub mod LayerLemmas
 pub mod OrderLemmas

@@ -13,6 +13,7 @@ pub mod GoalAnswer
 pub mod AnswerChanges
 pub mod MovieSearch
 pub mod Verdict
+pub mod SearchText
 pub mod Best
 pub mod Extreme
 pub mod Inside

@@ -1,6 +1,7 @@
 //! The search of a space of inputs for its best sequence.
 #![tactic(auto)]
 
+mod answering;
 mod arrival;
 mod changes;
 mod choices;
@@ -20,12 +21,15 @@ mod operands;
 mod parents;
 mod power;
 mod reading_words;
+mod search_error;
+mod search_request;
 mod searching;
 mod space;
 mod starting;
 mod verdict;
 mod word;
 
+pub use answering::{SearchBytes, SearchText, search_text};
 pub use changes::changes_write_the_sequence;
 pub use choices::{ChoicesError, ChoicesFaultKind, read_choices, stick_choices};
 pub use expression::{Expression, Operator};
@@ -38,6 +42,8 @@ pub use measure::Measure;
 pub use movie_search::{SearchFault, SearchRange, search_movie};
 pub use name::Name;
 pub use names::{NamesError, NamesFaultKind, read_names};
+pub use search_error::SearchError;
+pub use search_request::Search;
 pub use searching::{Found, find_shortest};
 pub use space::Space;
 pub use starting::state_at;

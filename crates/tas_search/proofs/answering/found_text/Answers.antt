@@ -1,0 +1,6 @@
+use Rattle.tas_search.specs.Outcome.{outcome_of}
+use Rattle.tas_search.proofs.SearchLemmas.{stop_frames}
+use Rattle.tas_search.proofs.answering.found_text.Goals as goal
+
+pub verdict-requires-clause-frames : goal.verdict-requires-clause-frames
+verdict-requires-clause-frames c = stop_frames c.args.movie.now c.args.choices.now c.args.goal.now.kind c.args.goal.now.formula c.args.range (outcome_of c.in-Ok.found) c.in-Ok.changes.items c.in-Ok.ensures.found

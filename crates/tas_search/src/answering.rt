@@ -1,0 +1,138 @@
+//! What a search of a movie answers, as a function of its inputs' bytes.
+//!
+//! The movie's faults come before those of the choices, the names and the goal, as other commands have it: what a search is asked for can
+//! only be judged on a movie.
+
+ghost use Rattle.std.specs.Prelude.{◌≡◌, ◌<◌, true, false, length, IfOk, IfErr};
+ghost use Rattle.tas_search.specs.SearchText.{
+  AreGiven,
+  IsGivenError,
+  IsGoalOver,
+  IsGoalError,
+  IsFoundText,
+  IsFoundError,
+  IsSearchText,
+  IsSearchError,
+  inputs_of,
+};
+
+use crate::choices::{ChoicesError, read_choices, stick_choices};
+use crate::goal::{Goal, read_goal};
+use crate::movie_search::{SearchRange, search_movie};
+use crate::names::read_names;
+use crate::search_error::SearchError;
+use crate::search_request::{Search, range_of};
+use crate::verdict::verdict;
+use std::alloc::Global;
+use tas_engines::{movie_of, print_changes};
+use tas_movie::Movie;
+use vcs_inputs::Input;
+
+/// The bytes that a search reads.
+#[derive(Clone, Copy, Debug)]
+pub struct SearchBytes<'a> {
+    /// The cartridge.
+    pub image: &'a [u8],
+    /// The choices file; it doesn't matter where the search has no such file.
+    pub choices: &'a [u8],
+    /// The names file; nothing where there is none.
+    pub names: &'a [u8],
+    /// The movie's text.
+    pub movie: &'a [u8],
+}
+
+/// What a search answers.
+#[derive(Drop)]
+pub struct SearchText {
+    /// The script for `tas edit` that writes the best sequence into the movie; nothing where there is no such sequence.
+    pub script: Vec<u8>,
+    /// The report: the verdict's line.
+    pub report: Vec<u8>,
+}
+
+/// The choices: those of the text, if it is given, and else the left stick's.
+fn choices_of(alloc: Global, given: bool, text: &[u8]) -> Result<Vec<Input>, ChoicesError>
+    ensures read { IfOk result (λ choices. AreGiven given text.now choices.items) }
+    ensures fault { IfErr result (IsGivenError given text.now) }
+{
+    if given {
+        read_choices(alloc, text)
+    } else {
+        let choices = stick_choices();
+        match Vec::from_slice(alloc, &choices) {
+            Ok(choices) => Ok(choices),
+            Err(_) => Err(ChoicesError::Memory),
+        }
+    }
+}
+
+/// The goal over the names of a names file.
+fn goal_of(alloc: Global, names: &[u8], goal: &[u8]) -> Result<Goal, SearchError>
+    ensures read { IfOk result (λ r. IsGoalOver names.now goal.now r.kind r.formula) }
+    ensures fault { IfErr result (IsGoalError names.now goal.now) }
+{
+    match read_names(alloc, names) {
+        Err(error) => Err(SearchError::Names(error)),
+        Ok(known) => match read_goal(alloc, known.as_slice(), goal) {
+            Err(fault) => Err(SearchError::Goal(fault)),
+            Ok(goal) => Ok(goal),
+        },
+    }
+}
+
+/// The script and the report of a search of a movie.
+fn found_text(
+    alloc: Global,
+    movie: &Movie,
+    choices: &[Input],
+    goal: &Goal,
+    range: SearchRange,
+) -> Result<SearchText, SearchError>
+    requires { 0 < length choices.now }
+    ensures text { IfOk result (λ text. IsFoundText movie.now choices.now goal.now.kind
+        goal.now.formula range text.script.items text.report.items) }
+    ensures fault { IfErr result (IsFoundError movie.now range) }
+{
+    match search_movie(alloc, movie, choices, goal, range) {
+        Err(fault) => Err(SearchError::Search(fault)),
+        Ok((found, changes)) => {
+            let report = verdict(alloc, goal.kind, range, choices.len(), &found)?;
+            let script = print_changes(alloc, changes.as_slice())?;
+            Ok(SearchText { script, report })
+        }
+    }
+}
+
+/// What a search answers to its inputs: the script that writes the best sequence into the movie, and the report; or why there is no answer.
+///
+/// Faults, in order: those of [`movie_of`], `Choices`, `Names`, `Goal`, `Frames`, and then those of [`search_movie`]. Each may be that memory
+/// was refused, once the cartridge has the size of one.
+pub fn search_text(
+    alloc: Global,
+    search: &Search<'_>,
+    bytes: &SearchBytes<'_>,
+) -> Result<SearchText, SearchError>
+    // A search is a function of its inputs' bytes. After `best of all` the script writes a sequence of the space into the
+    // movie that meets the goal, and of all sequences none does so earlier, or has a better value; of those as good it is
+    // the first. After `none` no sequence meets it, and after `stopped` none of as many frames as the line says.
+    // Refused: changes_are_left_out_of_the_script, choices_file_is_left_unread.
+    ensures text { IfOk result (λ text. IsSearchText (inputs_of search.now bytes.now)
+        text.script.items text.report.items) }
+    // A fault is that of the first input that has one.
+    // Refused: goal_is_read_without_names.
+    ensures fault { IfErr result (IsSearchError (inputs_of search.now bytes.now)) }
+{
+    let movie = match movie_of(alloc, bytes.image, bytes.movie) {
+        Ok(movie) => movie,
+        Err(fault) => return Err(SearchError::Run(fault)),
+    };
+    let choices = match choices_of(alloc, search.has_choices, bytes.choices) {
+        Ok(choices) => choices,
+        Err(error) => return Err(SearchError::Choices(error)),
+    };
+    let goal = goal_of(alloc, bytes.names, search.goal)?;
+    let Some(range) = range_of(search) else {
+        return Err(SearchError::Frames);
+    };
+    found_text(alloc, &movie, choices.as_slice(), &goal, range)
+}
