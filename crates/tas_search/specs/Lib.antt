@@ -14,6 +14,7 @@ pub mod AnswerChanges
 pub mod MovieSearch
 pub mod Verdict
 pub mod SearchText
+pub mod SearchRun
 pub mod Best
 pub mod Extreme
 pub mod Inside

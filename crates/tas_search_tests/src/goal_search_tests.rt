@@ -1,7 +1,7 @@
 //! Searches for goals by their texts, and the changes that write what was found into a movie.
 
 use crate::checks::{check_same, check_that, expect_ok, expect_some};
-use crate::goals::{COUNTER, cart_of, three_choices};
+use crate::goals::{COUNTER, cart_of, still, three_choices};
 use std::alloc::Global;
 use std::process::Abort;
 use tas_language::{Change, change_line, read_change};
@@ -50,19 +50,6 @@ fn goals_are_searched_for(rt: HostRuntime) {
     }
 }
 
-/// A movie of so many frames in which nothing is pressed.
-fn still<R: Abort>(rt: &R, alloc: Global, len: usize) -> Movie {
-    let mut movie = expect_ok(rt, Movie::new(alloc, &cart_of(rt, alloc, COUNTER)));
-    let frames = expect_ok(rt, Inputs::repeated(alloc, Input::none(), len));
-    let insert = Edit::Insert {
-        at: 0,
-        inputs: frames,
-    };
-    expect_ok(rt, check(&movie, &insert));
-    apply(&mut movie, &insert);
-    movie
-}
-
 /// The edit that a change asks for.
 fn edit_of<R: Abort>(rt: &R, alloc: Global, change: Change) -> Edit {
     match change {
@@ -92,7 +79,7 @@ fn make<R: Abort>(rt: &R, alloc: Global, movie: &mut Movie, changes: &[Change]) 
 /// Searches a movie of `len` frames from frame 3 on for what a text asks, writes what was found into it, and plays it to the end of that:
 /// the number at 80 then.
 fn played<R: Abort>(rt: &R, alloc: Global, len: usize, text: &[u8], hold: usize) -> u8 {
-    let mut movie = still(rt, alloc, len);
+    let mut movie = still(rt, alloc, COUNTER, len);
     let names = expect_ok(rt, read_names(alloc, b"n 80\n"));
     let goal = expect_ok(rt, read_goal(alloc, names.as_slice(), text));
     let range = SearchRange {
@@ -151,7 +138,7 @@ fn searched<R: Abort>(
     count: usize,
     hold: usize,
 ) -> Result<(Option<usize>, usize), SearchFault> {
-    let movie = still(rt, alloc, 5);
+    let movie = still(rt, alloc, COUNTER, 5);
     let names = expect_ok(rt, read_names(alloc, b"n 80\n"));
     let goal = expect_ok(rt, read_goal(alloc, names.as_slice(), b"reach n == 4"));
     let range = SearchRange {

@@ -3,6 +3,7 @@
 use crate::checks::{expect_ok, expect_some};
 use std::alloc::Global;
 use std::process::Abort;
+use tas_movie::{Edit, Inputs, Movie, apply, check};
 use tas_search::{Expression, Formula, Operator};
 use vcs_machine::{Cart, Input};
 
@@ -37,6 +38,19 @@ pub fn three_choices() -> [Input; 3] {
     choices[1].left.right = true;
     choices[2].left.left = true;
     choices
+}
+
+/// A movie of the cartridge with a program and of so many frames in which nothing is pressed.
+pub fn still<R: Abort>(rt: &R, alloc: Global, program: &[u8], len: usize) -> Movie {
+    let mut movie = expect_ok(rt, Movie::new(alloc, &cart_of(rt, alloc, program)));
+    let frames = expect_ok(rt, Inputs::repeated(alloc, Input::none(), len));
+    let insert = Edit::Insert {
+        at: 0,
+        inputs: frames,
+    };
+    expect_ok(rt, check(&movie, &insert));
+    apply(&mut movie, &insert);
+    movie
 }
 
 /// The byte at 80.

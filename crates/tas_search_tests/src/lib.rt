@@ -14,4 +14,6 @@ mod goals;
 #[cfg(test)]
 mod plain;
 #[cfg(test)]
+mod run_tests;
+#[cfg(test)]
 mod search_tests;
