@@ -1,1 +1,4 @@
 pub mod WritingLemmas
+pub mod ReadingLemmas
+pub mod RecoverLemmas
+pub mod LawLemmas

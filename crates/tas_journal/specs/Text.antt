@@ -1,5 +1,5 @@
 -- The text of a journal: a head that makes the movie with which it begins, and a line for each accepted edit.
-use Rattle.std.specs.Prelude.{ℕ, ◌+◌, ◌<◌, ◌≤◌, ◌^◌, List, [], ◌∷◌, ◌++◌, length, codes, decimal}
+use Rattle.std.specs.Prelude.{ℕ, ◌+◌, ◌<◌, ◌≤◌, ◌^◌, List, [], ◌∷◌, ◌++◌, length, Option, Some, None, codes, decimal}
 use Rattle.std.specs.List.{flat_map}
 use Rattle.hex.specs.Hex.{encode_lower}
 use Rattle.sha2.specs.Sha256.{sha256}
@@ -10,7 +10,11 @@ use Rattle.tas_movie.specs.Text.{line, frame_text, text2}
 use Rattle.tas_movie.specs.declared.edit.Edit.{Edit}
 use Rattle.tas_movie.specs.declared.edit.Edit.TheVariants.{Load, Insert, Replace, Delete}
 use Rattle.tas_movie.specs.declared.run.FrameRun.{FrameRun}
-use Rattle.tas_language.specs.Commands.{IsNumber, pair_text}
+use Rattle.tas_language.specs.declared.change.Change.{Change}
+use Rattle.tas_language.specs.declared.change.Change.TheVariants as change
+use Rattle.tas_language.specs.declared.command.Command.{Command}
+use Rattle.tas_language.specs.declared.command.Command.TheVariants as command
+use Rattle.tas_language.specs.Commands.{IsNumber, image_bytes, pair_text}
 use Rattle.tas_language.specs.History.{image_of, load_text, some_runs_of, IsCartridge}
 
 -- ---- the head
@@ -87,3 +91,24 @@ IsSeat seat = seat < 2 ^ 32
 unfoldable pub AreEntries : {A : Type 0} → List (Entry A) → Type 0
 AreEntries [] = Unit {0}
 AreEntries (entry ∷ entries) = IsSeat entry.seat × Fits entry.edit × AreEntries entries
+
+-- what is known of an edit that was read, before its cartridge is. Private functions cite it
+abbrev pub FitsInLine : {A : Type 0} → Edit A → Type 0
+FitsInLine (Load cart) = Unit {0}
+FitsInLine (Insert at inputs) = IsNumber at × (length inputs ≤ most_inputs)
+FitsInLine (Replace at inputs) = IsNumber at × (length inputs ≤ most_inputs)
+FitsInLine (Delete at count) = IsNumber at × IsNumber count
+
+-- a command that loads a cartridge or deletes frames, as an edit. Private functions cite it
+abbrev pub deletion_of : (A : Type 0) → Change → Option (Edit A)
+deletion_of A (change.Insert at count input) = None
+deletion_of A (change.Replace at count input) = None
+deletion_of A (change.Delete at count) = Some (Delete at count)
+
+abbrev pub edit_of_command : (A : Type 0) → Command → Option (Edit A)
+edit_of_command A (command.Load image) = Some (Load (image_bytes image))
+edit_of_command A (command.Edit change) = deletion_of A change
+edit_of_command A command.Length = None
+edit_of_command A (command.InputAt frame) = None
+edit_of_command A (command.Shot frame) = None
+edit_of_command A (command.Work frames) = None

@@ -5,6 +5,12 @@
 //! bytes.
 #![tactic(auto)]
 
+mod entries;
+mod error;
+mod laws;
+mod recovering;
 mod writing;
 
+pub use error::{JournalError, JournalErrorKind, RecoverError};
+pub use laws::one_journal_per_text;
 pub use writing::{push_entry, write_head};

@@ -20,7 +20,10 @@ use vcs_inputs::Input;
 use vcs_machine::PROFILE;
 
 /// The third line of a head, with its newline: that of a movie's text.
-fn movie_line<A: Allocator + Copy>(alloc: A, text: &[u8]) -> Result<Vec<u8, A>, AllocError>
+pub(crate) fn movie_line<A: Allocator + Copy>(
+    alloc: A,
+    text: &[u8],
+) -> Result<Vec<u8, A>, AllocError>
     ensures { IfOk result (λ bytes. bytes.items ≡ movie_line text.now) }
 {
     let count = text.len();
@@ -113,7 +116,7 @@ fn entry_front<A: Allocator>(alloc: A, number: usize, seat: u32) -> Result<Vec<u
 }
 
 /// The line of an entry, with its newline.
-fn entry_line<A: Allocator + Copy, B: Allocator>(
+pub(crate) fn entry_line<A: Allocator + Copy, B: Allocator>(
     alloc: A,
     number: usize,
     seat: u32,
