@@ -30,11 +30,12 @@ use Rattle.tas_language.specs.Parts.{hex_text}
 use Rattle.tas_language.proofs.OneCommand.{number_same}
 use Rattle.tas_language.proofs.WordLemmas.{decimal_no_space}
 use Rattle.tas_journal.specs.Text.{run_words, frames_words, edit_text, entry_front, entry_text, entry_lines, format_line, profile_line, movie_line, head_text, journal_text, Entry, Fits, IsSeat, AreEntries}
+use Rattle.tas_journal.specs.Recovery.{head_of}
 use Rattle.tas_journal.proofs.ReadingLemmas.{some_runs, run_same, frames_begin, place_cut, place_spaced, loads_said, load_first, loaded, same_bytes, load_read, delete_read, insert_read, replace_read, other_read, entry_rest, same_long, some_same}
 
 -- ---- no newline stands in an entry
 
-no_byte : (xs : List ℕ) → NoBreak xs → NoByte 10 xs
+pub no_byte : (xs : List ℕ) → NoBreak xs → NoByte 10 xs
 no_byte [] h = tt
 no_byte (x ∷ xs) h = (h.0, no_byte xs h.1)
 
@@ -180,7 +181,7 @@ entry_same {A} number a b small other fits less e =
 
 -- ---- one text has one list of entries
 
-line_is : (said rest : List ℕ) → line said ++ rest ≡ said ++ 10 ∷ rest
+pub line_is : (said rest : List ℕ) → line said ++ rest ≡ said ++ 10 ∷ rest
 line_is said rest = append_assoc said (10 ∷ []) rest
 
 pub lines_same : {A : Type 0} (number : ℕ) (es fs : List (Entry A)) → number + length es < 2 ^ 64 → number + length fs < 2 ^ 64 → AreEntries es → AreEntries fs → entry_lines number es ≡ entry_lines number fs → es ≡ fs
@@ -233,7 +234,7 @@ runs_length (r ∷ rs) longest few =
     let begun = length-append (frame_text r.input) (count_text r.count) in
     omega (arith, all, ih, count, joined, ended, begun, longest.0)
 
-text_short : (movie : MovieContent) → length movie.inputs ≤ most_inputs → length (text2 movie) < 2 ^ 64
+pub text_short : (movie : MovieContent) → length movie.inputs ≤ most_inputs → length (text2 movie) < 2 ^ 64
 text_short movie few =
     let made = ap length (runs_made movie.inputs) in
     let lines = runs_length (runs_of movie.inputs) (runs_longest movie.inputs) (omega (arith, made, few)) in
@@ -246,29 +247,38 @@ text_short movie few =
 abbrev head_front : List ℕ
 head_front = format_line ++ (profile_line ++ codes "movie ")
 
-joined : (a b c d e f g h i : List ℕ) → (a ++ (b ++ ((c ++ d ++ e ++ f ++ g) ++ h))) ++ i ≡ (a ++ (b ++ c)) ++ (d ++ (e ++ (f ++ (g ++ (h ++ i)))))
-joined a b c d e f g h i = simp append_assoc
+joined : (a b c d e f g h : List ℕ) → a ++ (b ++ ((c ++ d ++ e ++ f ++ g) ++ h)) ≡ (a ++ (b ++ c)) ++ (d ++ (e ++ (f ++ (g ++ h))))
+joined a b c d e f g h = simp append_assoc
 
-head_parted : (text more : List ℕ) → (format_line ++ (profile_line ++ (movie_line text ++ text))) ++ more ≡ head_front ++ (decimal (length text) ++ 32 ∷ (encode_lower (sha256 text) ++ 10 ∷ (text ++ more)))
+head_parted : (text more : List ℕ) → head_of text more ≡ head_front ++ (decimal (length text) ++ 32 ∷ (encode_lower (sha256 text) ++ 10 ∷ (text ++ more)))
 unfolding movie_line
-head_parted text more = joined format_line profile_line (codes "movie ") (decimal (length text)) (codes " ") (encode_lower (sha256 text)) (codes "\n") text more
+head_parted text more = joined format_line profile_line (codes "movie ") (decimal (length text)) (codes " ") (encode_lower (sha256 text)) (codes "\n") (text ++ more)
 
-pub heads_same : (m n : MovieContent) (more other : List ℕ) → m.cart ≡ n.cart → length m.inputs ≤ most_inputs → length n.inputs ≤ most_inputs → head_text m ++ more ≡ head_text n ++ other → (m ≡ n) × (more ≡ other)
-heads_same m n more other same few less e =
-    let t : List ℕ = text2 m in
-    let u : List ℕ = text2 n in
+-- a head has one text for its movie's
+pub texts_same : (t u more other : List ℕ) → length t < 2 ^ 64 → length u < 2 ^ 64 → head_of t more ≡ head_of u other → (t ≡ u) × (more ≡ other)
+texts_same t u more other few less e =
     let counted = append_cancel_left head_front _ _ (sym (head_parted t more) ∙ e ∙ head_parted u other) in
-    let first = same_front 32 (decimal (length t)) (decimal (length u)) _ _ (decimal_no_space (length t) (text_short m few)) (decimal_no_space (length u) (text_short n less)) counted in
-    let long : length t ≡ length u = decimal_injective (length t) (length u) (text_short m few) (text_short n less) first.0 in
+    let first = same_front 32 (decimal (length t)) (decimal (length u)) _ _ (decimal_no_space (length t) few) (decimal_no_space (length u) less) counted in
+    let long : length t ≡ length u = decimal_injective (length t) (length u) few less first.0 in
     let hex : length (encode_lower (sha256 t)) ≡ length (encode_lower (sha256 u)) =
     omega (arith, hex_length lower_digits (sha256 t), hex_length lower_digits (sha256 u), length-sha256 t, length-sha256 u) in
     let second = same_long (encode_lower (sha256 t)) (encode_lower (sha256 u)) (10 ∷ (t ++ more)) (10 ∷ (u ++ other)) hex first.1 in
-    let texts : t ++ more ≡ u ++ other = ap (drop 1) second.1 in
-    let third = same_long t u more other long texts in
-    (same_text2 m n same few less third.0, third.1)
+    same_long t u more other long (ap (drop 1) second.1)
+
+together : (a b c d e : List ℕ) → (a ++ (b ++ (c ++ d))) ++ e ≡ a ++ (b ++ (c ++ (d ++ e)))
+together a b c d e = simp append_assoc
+
+-- a movie's head and what follows it
+pub head_of_movie : (movie : MovieContent) (more : List ℕ) → head_text movie ++ more ≡ head_of (text2 movie) more
+head_of_movie movie more = together format_line profile_line (movie_line (text2 movie)) (text2 movie) more
+
+pub heads_same : (m n : MovieContent) (more other : List ℕ) → m.cart ≡ n.cart → length m.inputs ≤ most_inputs → length n.inputs ≤ most_inputs → head_of (text2 m) more ≡ head_of (text2 n) other → (m ≡ n) × (more ≡ other)
+heads_same m n more other same few less e =
+    let both = texts_same (text2 m) (text2 n) more other (text_short m few) (text_short n less) e in
+    (same_text2 m n same few less both.0, both.1)
 
 pub one_journal : (A : Type 0) (m n : MovieContent) (es fs : List (Entry A)) → m.cart ≡ n.cart → length m.inputs ≤ most_inputs → length n.inputs ≤ most_inputs → length es < 2 ^ 64 → length fs < 2 ^ 64 → AreEntries es → AreEntries fs
     → journal_text m es ≡ journal_text n fs → (m ≡ n) × (es ≡ fs)
 one_journal A m n es fs same few less short brief fit are e =
-    let both = heads_same m n (entry_lines 0 es) (entry_lines 0 fs) same few less e in
+    let both = heads_same m n (entry_lines 0 es) (entry_lines 0 fs) same few less (sym (head_of_movie m (entry_lines 0 es)) ∙ e ∙ head_of_movie n (entry_lines 0 fs)) in
     (both.0, lines_same 0 es fs (omega (arith, short)) (omega (arith, brief)) fit are both.1)

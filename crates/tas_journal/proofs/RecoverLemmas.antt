@@ -126,3 +126,7 @@ full_not_cut most edits text rest all le is = omega (arith, all, le, is.0)
 pub not_false : (b : Bool) → not b ≡ false → b ≡ true
 not_false true e = refl
 not_false false e = absurd (false≢true (sym e))
+
+pub empty_lines : (rest : List ℕ) → length rest ≡ 0 → (split_lines rest).lines ≡ []
+empty_lines [] none = no_lines [] tt
+empty_lines (b ∷ rest) none = absurd (omega (arith, none))

@@ -7,10 +7,12 @@
 
 mod entries;
 mod error;
+mod head;
 mod laws;
 mod recovering;
 mod writing;
 
 pub use error::{JournalError, JournalErrorKind, RecoverError};
-pub use laws::one_journal_per_text;
+pub use laws::{cut_journal_loses_no_line, journal_makes_its_movie, one_journal_per_text};
+pub use recovering::{Recovered, recover};
 pub use writing::{push_entry, write_head};

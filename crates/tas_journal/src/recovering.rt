@@ -5,13 +5,15 @@
 
 ghost use Rattle.std.specs.Prelude.{◌≡◌, ◌+◌, ◌<◌, ◌≤◌, ◌^◌, take, min, length, true, false, Ok, Err, IfOk, OnOk, IfErr};
 ghost use Rattle.tas_movie.specs.Fault.{split_lines};
-ghost use Rattle.tas_journal.specs.Recovery.{IsLineError, IsRecoverError, LineMakes, LinesMake, error_at, IsCut};
+ghost use Rattle.tas_journal.specs.Recovery.{IsLineError, IsRecoverError, IsRecovered, IsUnrecovered, LineMakes, LinesMake, error_at, IsCut};
 
 use crate::entries::{LineError, read_entry};
+use crate::head::{count_lines, head_movie, head_parts};
 use crate::{JournalError, JournalErrorKind, RecoverError};
 use byte_text::split_once;
-use std::alloc::Allocator;
+use std::alloc::{Allocator, Global};
 use tas_movie::{Movie, apply, check};
+use vcs_inputs::Cart;
 
 /// What the lines of a journal made.
 #[derive(Clone, Copy)]
@@ -92,4 +94,59 @@ pub(crate) fn make_lines<A: Allocator + Copy>(
         }
     }
     Ok(Made { edits, cut: false })
+}
+
+/// What was recovered from a journal.
+#[derive(Drop)]
+pub struct Recovered<A: Allocator = Global> {
+    /// The movie that the journal makes.
+    pub movie: Movie<A>,
+    /// How many edits it has.
+    pub edits: usize,
+    /// Whether a last line was cut: bytes that no newline ends follow the last edit.
+    pub cut: bool,
+}
+
+/// What is recovered from a journal with the cartridge that it began with: its edits are those of the lines before the line `until`,
+/// counted from 1, so that `usize::MAX` asks for all. Bytes that no newline ends are no edit, and no fault. Else the first line at
+/// fault, or `Memory`.
+pub fn recover<A: Allocator + Copy, B: Allocator>(
+    alloc: A,
+    bytes: &[u8],
+    cart: &Cart<B>,
+    until: usize,
+) -> Result<Recovered<A>, RecoverError>
+    // What is recovered is the movie that a head's movie, of this cartridge, is after the edits of the lines before `until`, how many they
+    // are, and whether bytes without a newline follow them. The head has this machine's profile, and the text's length and digest.
+    // Refused: line_before_the_last_one_isnt_made, cut_line_isnt_reported, older_text_begins_a_journal,
+    // head_of_another_profile_is_read.
+    ensures made { IfOk result
+        (λ found. IsRecovered A bytes.now cart.now until found.movie found.edits found.cut) }
+    // An error other than `Memory` is the first line at fault, of the head, of its movie's text or of the edits, and what is wrong with it.
+    // Refused: fault_of_the_text_is_counted_from_its_own_first_line.
+    ensures wrong { IfErr result (IsRecoverError (IsUnrecovered A bytes.now cart.now until)) }
+{
+    let parts = match head_parts(alloc, bytes) {
+        Ok(parts) => parts,
+        Err(error) => return Err(error),
+    };
+    let mut movie = match head_movie(alloc, parts.text, cart) {
+        Ok(movie) => movie,
+        Err(error) => return Err(error),
+    };
+    let first = count_lines(parts.text) + 4; // the head's three lines, the movie's, and the next one
+    match make_lines(
+        alloc,
+        &mut movie,
+        parts.rest,
+        first,
+        until.saturating_sub(first),
+    ) {
+        Ok(made) => Ok(Recovered {
+            movie,
+            edits: made.edits,
+            cut: made.cut,
+        }),
+        Err(error) => Err(error),
+    }
 }
