@@ -293,6 +293,7 @@ fn each_input_at_fault(rt: HostRuntime) {
     let alloc = rt.alloc();
     let image = image_of(&rt, alloc, COUNTER);
     let movie = text_of(&rt, alloc, COUNTER, 5);
+    let short = expect_ok(&rt, Vec::from_slice(alloc, b"short"));
     let no_frame = SearchError::Choices(ChoicesError::Line {
         line: 2,
         kind: ChoicesFaultKind::Frame,
@@ -309,59 +310,94 @@ fn each_input_at_fault(rt: HostRuntime) {
         word: 3,
         wanted: Wanted::Operand,
     });
-    for (case, (choices, names, goal, frames, hold, wanted)) in [
-        (
-            b"..... ..... .....\nR\n".as_slice(),
-            b"n 7F\n".as_slice(),
-            b"".as_slice(),
-            3usize,
-            0usize,
-            no_frame,
-        ),
-        (b"", b"n 7F\n", b"", 3, 0, no_choice),
-        (CHOICES, b"n 7F\n", b"", 3, 0, no_address),
-        (
-            CHOICES,
-            b"n 80\n",
-            b"find n",
-            3,
-            0,
-            SearchError::Goal(GoalFault::Kind),
-        ),
-        (CHOICES, b"n 80\n", b"reach ( ==", 3, 0, no_operand),
-        (CHOICES, b"n 80\n", b"reach n", 3, 0, SearchError::Frames),
-        (CHOICES, b"n 80\n", b"reach n", 3, 2, SearchError::Frames),
-        (
-            CHOICES,
-            b"n 80\n",
-            b"reach n",
-            262_142,
-            1,
-            SearchError::Search(SearchFault::Long),
-        ),
-    ]
-    .iter()
-    .enumerate()
-    {
-        let search = search(*frames, *hold, 100, goal);
-        let found = fault(
-            &rt,
-            alloc,
-            &search,
-            &mut [image.as_slice(), choices, names],
-            movie.as_slice(),
-        );
-        check_same(&rt, case, found, Some(*wanted));
-        // The movie comes first.
-        let found = fault(
-            &rt,
-            alloc,
-            &search,
-            &mut [b"short".as_slice(), choices, names],
-            movie.as_slice(),
-        );
-        check_same(&rt, case, found, Some(SearchError::Run(RunFault::Size(5))));
-    }
+    let found = fault(
+        &rt,
+        alloc,
+        &search(3, 0, 100, b""),
+        &mut [image.as_slice(), b"..... ..... .....\nR\n", b"n 7F\n"],
+        movie.as_slice(),
+    );
+    check_same(&rt, "no frame", found, Some(no_frame));
+    let found = fault(
+        &rt,
+        alloc,
+        &search(3, 0, 100, b""),
+        &mut [image.as_slice(), b"", b"n 7F\n"],
+        movie.as_slice(),
+    );
+    check_same(&rt, "no choice", found, Some(no_choice));
+    let found = fault(
+        &rt,
+        alloc,
+        &search(3, 0, 100, b""),
+        &mut [image.as_slice(), CHOICES, b"n 7F\n"],
+        movie.as_slice(),
+    );
+    check_same(&rt, "no address", found, Some(no_address));
+    let found = fault(
+        &rt,
+        alloc,
+        &search(3, 0, 100, b"find n"),
+        &mut [image.as_slice(), CHOICES, b"n 80\n"],
+        movie.as_slice(),
+    );
+    check_same(
+        &rt,
+        "no kind",
+        found,
+        Some(SearchError::Goal(GoalFault::Kind)),
+    );
+    let found = fault(
+        &rt,
+        alloc,
+        &search(3, 0, 100, b"reach ( =="),
+        &mut [image.as_slice(), CHOICES, b"n 80\n"],
+        movie.as_slice(),
+    );
+    check_same(&rt, "no operand", found, Some(no_operand));
+    let found = fault(
+        &rt,
+        alloc,
+        &search(3, 0, 100, b"reach n"),
+        &mut [image.as_slice(), CHOICES, b"n 80\n"],
+        movie.as_slice(),
+    );
+    check_same(&rt, "no hold", found, Some(SearchError::Frames));
+    let found = fault(
+        &rt,
+        alloc,
+        &search(3, 2, 100, b"reach n"),
+        &mut [image.as_slice(), CHOICES, b"n 80\n"],
+        movie.as_slice(),
+    );
+    check_same(&rt, "a frame left", found, Some(SearchError::Frames));
+    let found = fault(
+        &rt,
+        alloc,
+        &search(262_142, 1, 100, b"reach n"),
+        &mut [image.as_slice(), CHOICES, b"n 80\n"],
+        movie.as_slice(),
+    );
+    check_same(
+        &rt,
+        "too long",
+        found,
+        Some(SearchError::Search(SearchFault::Long)),
+    );
+    // The movie comes first.
+    let found = fault(
+        &rt,
+        alloc,
+        &search(3, 0, 100, b""),
+        &mut [short.as_slice(), b"..... ..... .....\nR\n", b"n 7F\n"],
+        movie.as_slice(),
+    );
+    check_same(
+        &rt,
+        "short",
+        found,
+        Some(SearchError::Run(RunFault::Size(5))),
+    );
     let mut late = search(3, 1, 100, b"reach n");
     late.from = 6;
     let found = fault(
