@@ -13,7 +13,7 @@ ghost use Rattle.tas_film.specs.Runs.{most_workers};
 /// The limits are those of the definitions: 1,000,000 edits of a history, 8 seats of a desk, 1,024 frames and
 /// 16 workers of an export.
 pub fn limits_are_exact()
-    // Refused: at_most_7_seats*.
+    // Refused: at_most_7_seats.
     ensures edits { MAX_EDITS ≡ most_edits }
     ensures seats { MAX_SEATS ≡ most_seats }
     ensures export { MAX_EXPORT ≡ most_exported }

@@ -68,7 +68,7 @@ impl<N: Name, A: Allocator> Seat<N, A> {
 
     /// The seat's number, counted from 0.
     pub fn number(&self) -> u32
-        // Refused: seat_numbers_are_halved*.
+        // Refused: seat_numbers_are_halved.
         ensures { result ≡ self.now.number }
     {
         self.number

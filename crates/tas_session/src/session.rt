@@ -191,7 +191,7 @@ impl<A: Allocator + Copy> Session<A> {
             }) }
         // `edit` refuses in the order Serial, Full, Place, Long, Memory; each of the first four exactly where it is
         // due, Memory only where nothing else is.
-        // Refused: at_most_999999_edits*.
+        // Refused: at_most_999999_edits.
         ensures refusal { MatchResult result (λ _. edit_refusal self.old seat made edit ≡ None)
             (IsEditError (edit_refusal self.old seat made edit)) }
         ensures done { OnOk result

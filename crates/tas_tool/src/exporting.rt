@@ -40,7 +40,7 @@ impl Gate for OpenGate {
 fn export_end(from: usize, to: usize, answer: Result<Exported, ExportError>) -> Result<(), RunFault>
     // What the desk's answer names is compared with the two edits that made the movie; a halt and a range are reported
     // as the desk says them.
-    // Refused: halted_export_is_given_as_memory*, faulty_range_is_given_as_memory*.
+    // Refused: halted_export_is_given_as_memory, faulty_range_is_given_as_memory.
     ensures { result ≡ export_end from to answer }
 {
     match answer {
@@ -76,7 +76,7 @@ fn write_frames<
 ) -> Result<(), RunFault>
     requires two { (seat.old.made ≡ 2) × (2 ≤ length seat.old.front) }
     requires workers { (1 ≤ frames.workers) × (frames.workers ≤ most_workers) }
-    // Refused: export_at_a_foreign_edit_is_reported*.
+    // Refused: export_at_a_foreign_edit_is_reported.
     ensures seen { HasSeen seat.old seat.new }
     ensures own { StandsAtOwn seat.new result }
     ensures ends { length seat.new.front ≤ seat.new.made

@@ -94,7 +94,7 @@ pub fn movie_script_run<A: Allocator + Copy, T: Wait, C: Read, M: Read, R: Read,
     input: &mut R,
     output: &mut W,
 ) -> Result<(), ToolFault>
-    // Refused: foreign_over_a_movie*.
+    // Refused: foreign_over_a_movie.
     // A script over a movie is answered in the same way from this movie and 2 edits on; faults of reading, size and
     // text come first, with nothing written.
     // Refused: blank_cartridge_stands_under_the_movie, movie_that_is_refused_is_dropped*.

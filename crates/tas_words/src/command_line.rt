@@ -162,7 +162,7 @@ fn with_words<'a>(alloc: Global, subcommand: Subcommand) -> Result<Command<'a>, 
 fn command_of<'a>(alloc: Global, subcommand: Subcommand) -> Result<Command<'a>, AllocError>
     ensures rules { IfOk result
         (HasRules subcommand.name.now (map rule_of_word subcommand.words.now)) }
-    // Refused: usage_is_the_summary*.
+    // Refused: usage_is_the_summary.
     ensures usage { IfOk result (λ command. HasUsage command subcommand.usage.now) }
 {
     // The usage is given last, since clap's `arg` says nothing of it.

@@ -269,7 +269,7 @@ pub fn read_words<'a, A: Allocator>(
 ) -> Result<Order<'a>, Error>
     // The task is that of the command that the words name, its numbers in their ranges. `named_command` is clap's own
     // definition of the subcommand that words reach, over the commands' names and the flags for help and version.
-    // Refused: shot_is_read_as_check*, shot_is_answered_as_check*, new_is_read_as_check*, ram_is_read_as_export*,
+    // Refused: shot_is_read_as_check, shot_is_answered_as_check*, new_is_read_as_check*, ram_is_read_as_export*,
     // compare_is_read_as_diff*, cut_is_read_as_ram*.
     // The task's files and numbers are the words of that command, by their names, as clap's own definition finds them
     // after it; a number is read in decimal digits, before which there may be a plus. What may be left out is missing
