@@ -193,7 +193,7 @@ impl<A: Allocator + Copy> Draft<A> {
         // Refused: strip_in_a_draft_leaves_out_its_last_frame.
         // The one fault at a draft is `Memory`: the draft is as it was then; or, of a strip, as its first pictures left
         // it, fewer than it asks for; or the line was carried out.
-        // Refused: strip_out_of_memory_is_no_entry, failed_strip_in_a_draft_leaves_no_states*.
+        // Refused: strip_out_of_memory_is_no_entry, failed_strip_in_a_draft_leaves_no_states.
         ensures answer { MatchResult result
             (λ found. MatchOption found (IsAboutDesk request × (self.new ≡ self.old))
             (λ bytes. IsDraftAnswered self.old request bytes.items self.new))
