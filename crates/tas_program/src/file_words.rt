@@ -317,7 +317,7 @@ fn fault_among(seen: &[SeenWord; WORDS]) -> Option<WordFault>
 /// line. Only the words of [`Task::Talk`] and [`Task::Desk`] are looked at: other tasks read their inputs whole before they write.
 pub fn check_words<F: Folder>(folder: &F, task: Task<'_>) -> Result<Permit, WordFault>
     // A permit to open files for writing is given where no word is at fault.
-    // Refused: words_at_fault_are_run.
+    // Refused: words_at_fault_are_run, right_words_are_at_fault.
     ensures { WordsEnd (F.shown folder.now) task.entry result }
 {
     match fault_among(&see_all(folder, task)) {

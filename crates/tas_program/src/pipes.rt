@@ -31,7 +31,7 @@ impl<F: Folder> Door for Pipes<'_, F> {
     } };
 
     // A pair's first file is opened for reading, and the second one for writing.
-    // Refused: answers_are_written_over_the_lines.
+    // Refused: answers_are_written_over_the_lines, lines_are_read_from_the_answers.
     fn open(&mut self) -> io::Result<(F::File, F::Sink)> {
         let input = self.folder.open(self.pair.input)?;
         let output = self.folder.open_to_write(self.permit, self.pair.output)?;

@@ -307,12 +307,16 @@ pub fn run_task<
     // script_and_second_movie_are_swapped*.
     // A desk's conversations are those of its pairs, in order: their bytes are those of the first file of each, and the
     // answers begin after what the second one holds when it is opened. Nothing of standard input is read.
-    // Refused: second_pair_is_left_out, movie_and_cartridge_of_a_desk_are_swapped*.
+    // Refused: second_pair_is_left_out, each_pair_is_the_first, seventh_pair_stands_for_the_eighth,
+    // movie_and_cartridge_of_a_desk_are_swapped.
     // Where two words of `tas desk` or `tas talk` stand for one ordinary file, or an OUT for one that has bytes, by
     // what the folder showed of each word, the task isn't begun: it ends with the fault of the first such word, and
     // neither stream is read or written. Else it is done, and has no fault of a word.
-    // Refused: words_are_compared_with_none, device_is_not_compared, file_of_one_byte_is_written_over,
-    // answers_may_go_into_the_lines, second_output_is_not_looked_at*, word_is_reported_as_its_own_file*.
+    // Refused: words_are_compared_with_none, device_is_not_compared, files_of_one_device_are_one_file,
+    // file_of_one_byte_is_written_over, lines_that_have_bytes_are_at_fault, answers_may_go_into_the_lines,
+    // no_file_is_looked_at, each_word_is_looked_at_as_the_first, movie_of_a_desk_is_not_looked_at,
+    // second_output_is_not_looked_at, lines_are_looked_at_for_the_answers, bytes_are_reported_before_the_same_file,
+    // word_is_reported_as_its_own_file, fault_names_the_earlier_word_twice.
     ensures { IsTaskRun (files_by (F.bytes_of folder.now) (F.held_by folder.now) (F.shown folder.now))
         task.entry streams.old streams.new result }
 {
@@ -397,8 +401,8 @@ pub fn carry_out<
     // after a fault, and with 2, nothing read and nothing written to standard output, where a word is at fault or the
     // words aren't understood. Where the output replaces a file, the end is 0 only where the engine is done and the file was
     // given the output, or the movie that a conversation leaves, as the folder states its steps.
-    // Refused: fault_ends_with_status_0, program_saves_under_another_name, word_at_fault_ends_with_status_1*, misuse_ends_with_status_1*,
-    // misuse_is_shown_as_help*.
+    // Refused: fault_ends_with_status_0, program_saves_under_another_name, word_at_fault_ends_with_status_1,
+    // misuse_ends_with_status_1*, misuse_is_shown_as_help*.
     ensures { CarriesOut F.steps
         (files_by (F.bytes_of folder.now) (F.held_by folder.now) (F.shown folder.now))
         invocation.entry streams.old streams.new result }

@@ -131,6 +131,7 @@ pub fn read_names<A: Allocator + Copy>(alloc: A, text: &[u8]) -> Result<Vec<Name
     // address_is_accepted_as_a_name, name_is_given_twice.
     ensures read { IfOk result (λ names. AreNames text.now (names_of names.items)) }
     // With the names that were read each of them means the byte at its address.
+    // Refused: none, it follows from `read`, by which each is a name that no line before it gives.
     ensures mean { IfOk result (λ names. AllMean (names_of names.items) (names_of names.items)) }
     ensures fault { IfErr result (IsNamesError text.now) }
 {

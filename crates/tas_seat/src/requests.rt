@@ -292,6 +292,7 @@ pub fn answer_request<N: Name, W: CloseOnDrop, A: Allocator + Copy, R: Wait>(
         (λ bytes. HasAnswer A seat.old seat.new request bytes.items))
         (HasNoAnswer seat.old seat.new request) }
     // `begin`, `commit`, `drop` and `quit` get no answer and no fault from a seat.
+    // Refused: quit_is_out_of_memory_at_a_seat.
     ensures talk { IsAboutTalk request → result ≡ Ok None }
     // `NoEntry` comes only of a line that looks through the seat's reader: `len`, `input`, `shot`, `picture`,
     // `pictures`, `ram`, `digest` or `lag`.

@@ -293,6 +293,7 @@ impl<A: Allocator + Copy> Session<A> {
         ensures same { (self.new.journal ≡ self.old.journal) × (self.new.movie ≡ self.old.movie) }
         ensures registry { self.new.registry ≡ self.old.registry }
         // Where all of the grid up to the frame is kept, no more than a stride's frames are played.
+        // Refused: none, it follows from `reply`, by which `ran` is exact.
         ensures short { IfOk result
             (λ shot. HoldsGrid (stride (length self.old.movie.inputs)) k self.old.zone
             → shot.ran ≤ stride (length self.old.movie.inputs)) }

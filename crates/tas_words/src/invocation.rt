@@ -90,7 +90,8 @@ pub fn read_invocation<'a, A: Allocator + Copy>(
     // has the tip of the command that they name, which says what is read from standard input and shows a call. The tip
     // stands between the first line of a text and its rest, both whole; any other refusal is the text that was to be
     // told.
-    // Refused: flags_get_a_tip, word_too_many_gets_no_tip, number_out_of_range_gets_a_tip.
+    // Refused: flags_get_a_tip, word_too_many_gets_no_tip, number_out_of_range_gets_a_tip,
+    // number_with_a_plus_gets_a_tip, tip_comes_after_the_whole_text.
     ensures { IsInvocation (map string_bytes words.entry.now) result }
 {
     match read_words(global, words) {

@@ -270,17 +270,19 @@ pub fn read_words<'a, A: Allocator>(
     // The task is that of the command that the words name, its numbers in their ranges. `named_command` is clap's own
     // definition of the subcommand that words reach, over the commands' names and the flags for help and version.
     // Refused: shot_is_read_as_check, shot_is_answered_as_check*, new_is_read_as_check*, ram_is_read_as_export*,
-    // compare_is_read_as_diff*, cut_is_read_as_ram*.
+    // compare_is_read_as_diff*, cut_is_read_as_ram*, trace_of_one_instruction_too_many_is_read,
+    // export_by_no_worker_is_read.
     // The task's files and numbers are the words of that command, by their names, as clap's own definition finds them
     // after it; a number is read in decimal digits, before which there may be a plus. What may be left out is missing
     // in the task exactly where it is in the words, as a pair of a desk's files, of which both names are there or
     // none; EVERY of `digest` is 600 then.
     // Refused: script_is_the_cartridges_file*, half_of_the_frame_is_asked*, film_starts_at_its_end*,
     // number_that_is_said_is_left_out*, every_is_600_whatever_is_said,
-    // digest_is_of_single_frames_where_nothing_is_said*, second_movie_is_left_out*,
-    // first_names_of_two_pairs_are_swapped*.
+    // digest_is_of_single_frames_where_nothing_is_said*, second_movie_is_left_out*, files_of_a_script_are_swapped,
+    // conversation_over_a_movie_begins_without_it, movie_of_a_desk_is_its_cartridge, names_of_a_pair_are_swapped,
+    // answers_without_lines_are_left_out, first_names_of_two_pairs_are_swapped, seventh_pair_is_read_twice.
     // A command's output replaces the file FILE exactly where the words name one after `-o` or `--output`.
-    // Refused: file_of_the_output_is_left_out.
+    // Refused: file_of_the_output_is_left_out, output_has_another_flag.
     ensures { IfOk result
         (λ order. IsAsked (map string_bytes words.entry.now) order.task order.output) }
 {
