@@ -261,8 +261,8 @@ impl<N: Name, W: CloseOnDrop, A: Allocator + Copy> Desk<N, W, A> {
     }
 
     /// Makes the edits of a stroke as one step, as the seat, where the history has `at` edits: no other edit comes between those and
-    /// these, or between these, and nobody sees one without the other. The receipt has the number of edits then, and the movie's length
-    /// in frames.
+    /// these, or between these. They are published at once; that nobody sees one without the other is tested, not proved. The receipt has
+    /// the number of edits then, and the movie's length in frames.
     ///
     /// It is refused, in this order, for `Serial` as [`Desk::edit`] is, for `Moved` (the history has another number of edits), `Full`
     /// (no room for all of the edits below 1,000,000), `Place` and `Long` (the first edit that is refused) and `Memory`. After a refusal

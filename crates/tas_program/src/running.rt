@@ -306,7 +306,9 @@ pub fn run_task<
     // digest_ignores_every*, new_movie_has_one_frame*, compare_is_answered_as_diff*, cut_ends_before_its_last_frame*,
     // script_and_second_movie_are_swapped*.
     // A desk's conversations are those of its pairs, in order: their bytes are those of the first file of each, and the
-    // answers begin after what the second one holds when it is opened. Nothing of standard input is read.
+    // answers come after what the folder says that the second one's writer holds when it is opened (`held_by`): nothing,
+    // where the file is empty. The system's folder says nothing, and writes from the first byte on. Nothing of standard
+    // input is read.
     // Refused: second_pair_is_left_out, each_pair_is_the_first, seventh_pair_stands_for_the_eighth,
     // movie_and_cartridge_of_a_desk_are_swapped.
     // Where two words of `tas desk` or `tas talk` stand for one ordinary file, or an OUT for one that has bytes, by

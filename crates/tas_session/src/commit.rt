@@ -14,8 +14,8 @@ use tas_published::{Step, len_after};
 
 impl<A: Allocator + Copy> Session<A> {
     /// Makes the edits of a stroke as one step, as `seat`, which says that it has made `made` edits before, and that the history has
-    /// `at` edits. No reader sees the history between two of them. The receipt has the number of edits then, and the movie's length in
-    /// frames.
+    /// `at` edits. They are published at once; that no reader sees the history between two of them is tested, not proved. The receipt has
+    /// the number of edits then, and the movie's length in frames.
     ///
     /// It is refused, in this order, for `Serial`, `Moved` (the history has another number of edits than `at`), `Full` (no room for
     /// all of the edits), `Place` or `Long` of the first edit that is refused, and `Memory`; each refusal leaves history, movie and
