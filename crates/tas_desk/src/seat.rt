@@ -88,7 +88,7 @@ impl<N: Name, A: Allocator> Seat<N, A> {
     pub fn holds(&self, frame: usize) -> bool
         // `holds` reports whether the seat's zone has a state after a number of frames, `zone_movie` shows the movie
         // that it was made for, and `view` this movie with its states and its window.
-        // Refused: state_after_one_frame_less_is_reported*.
+        // Refused: state_after_one_frame_less_is_reported.
         ensures { result ≡ is_some (state_at frame self.now.zone.states) }
     {
         self.zone.holds(frame)

@@ -38,7 +38,7 @@ impl<N: Name, D: Door + Drop, A: Allocator + Copy> Caller<N, D, A> {
 
 /// How a conversation's end is reported as its seat's.
 pub fn seat_end(end: Result<(), ToolFault>) -> Result<(), SeatFault>
-    // Refused: failed_read_ends_well*, no_entry_is_reported_as_out_of_memory*.
+    // Refused: failed_read_ends_well, no_entry_is_reported_as_out_of_memory.
     ensures { result ≡ seat_end end }
 {
     match end {

@@ -281,7 +281,7 @@ pub fn answer_talk<N: Name, W: CloseOnDrop, A: Allocator + Copy, R: Wait>(
         bytes.items))
         (HasNoTalkAnswer (talking seat.old draft.old) (talking seat.new draft.new) request) }
     // `quit` gets no answer and no fault, however little memory there is.
-    // Refused: quit_is_reported_as_out_of_memory*.
+    // Refused: quit_is_reported_as_out_of_memory.
     ensures quit { request ≡ QuitLine → result ≡ Ok None }
     // `NoEntry` comes only of a line of which `answer_request` has it, and of none in a draft.
     // Refused: none, see `answer_request` and `Draft::answer`.

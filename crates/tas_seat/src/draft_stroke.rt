@@ -106,7 +106,7 @@ pub fn stroke_between<A: Allocator, B: Allocator>(
     movie: &Movie<B>,
 ) -> Result<Stroke<A>, AllocError>
     requires { movie.now.cart ≡ base.now.cart }
-    // Refused: stroke_of_a_deletion_is_out_of_memory*.
+    // Refused: stroke_of_a_deletion_is_out_of_memory.
     ensures stroke { IfOk result (λ stroke. IsStroke base.now movie.now (edits_of stroke)) }
     ensures leads { IfOk result (λ stroke. LeadsTo base.now (edits_of stroke) movie.now) }
     ensures memory { OnErr result (PutsIn base.now movie.now) }

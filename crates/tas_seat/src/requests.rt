@@ -296,7 +296,7 @@ pub fn answer_request<N: Name, W: CloseOnDrop, A: Allocator + Copy, R: Wait>(
     ensures talk { IsAboutTalk request → result ≡ Ok None }
     // `NoEntry` comes only of a line that looks through the seat's reader: `len`, `input`, `shot`, `picture`,
     // `pictures`, `ram`, `digest` or `lag`.
-    // Refused: copy_line_ends_with_no_entry*.
+    // Refused: copy_line_ends_with_no_entry.
     ensures entry { IfErr result (λ fault. fault ≡ NoEntry → IsLook request) }
 {
     match request {

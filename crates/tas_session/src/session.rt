@@ -394,7 +394,7 @@ impl<A: Allocator> Session<A> {
     /// How many edits the history has.
     pub fn at(&self) -> u64
         ensures at { result ≡ length self.now.journal }
-        // Refused: history_is_half_as_long*.
+        // Refused: history_is_half_as_long.
         ensures most { result ≤ most_edits }
     {
         self.publisher.journal().len() as u64

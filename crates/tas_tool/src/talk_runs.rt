@@ -246,7 +246,7 @@ pub fn movie_talk_run<A: Allocator + Copy, T: Wait, C: Read, M: Read, R: Read, W
     input: &mut R,
     output: &mut W,
 ) -> Talked<A>
-    // Refused: cartridge_and_movie_of_a_conversation_are_swapped*.
+    // Refused: cartridge_and_movie_of_a_conversation_are_swapped.
     ensures { IsMovieTalkLeaving result.movie (C.remaining cart.old) (C.remaining cart.new)
         (M.remaining movie.old) (M.remaining movie.new)
         (R.remaining input.old) (R.remaining input.new)
