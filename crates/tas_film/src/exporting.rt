@@ -58,8 +58,8 @@ pub fn export_frames<
     // After out of memory and after a halt, which is the least one, nothing is written; after a failed write the first
     // `written` bytes, and no frame is halted.
     // Refused: runs_drop_the_rest_of_a_division, each_run_plays_the_frames_of_the_first*,
-    // only_the_first_run_is_played*, last_halted_frame_is_reported*, halted_frames_are_written*,
-    // written_bytes_of_pictures_before_forgotten*.
+    // only_the_first_run_is_played, run_starts_from_a_state_half_way, frames_of_the_last_run_alone_are_counted,
+    // last_halted_frame_is_reported, halted_frames_are_written*, written_bytes_of_pictures_before_forgotten.
     ensures ok { OnOk result (Appends (W.contents to.old) (W.contents to.new)
         (pixmaps_of movie.now plan.from (plan.to - plan.from))) }
     ensures drawn { OnOk result (AllDrawn movie.now plan.from plan.to) }
@@ -93,7 +93,7 @@ fn export_runs<A: Allocator + Send + Sync, R: Threads + Sync, G: Gate + Sync, W:
     ensures played { IfOk result (λ played. played ≡ costs zone.now plan 0 plan.workers) }
     // Once the room for the pixmaps is there, an export is out of memory only where it has a frame and its first one
     // isn't halted.
-    // Refused: halt_is_reported_as_out_of_memory*.
+    // Refused: halt_is_reported_as_out_of_memory.
     ensures fault { IfErr result
         (IsRunsFault movie.now plan (W.contents to.old) (W.contents to.new)) }
 {

@@ -130,8 +130,8 @@ pub fn write_film<A: Allocator, B: Allocator + Copy, W: Write>(
     // `write_film` has written the pixmaps of the movie's frames from `from` to `to` - 1, in order and each once; or
     // those before the least halted frame, which it names; or, after a failed write, the first `written` bytes: all
     // pixmaps but the last of them are whole, and none of their frames is halted. After `Memory` nothing is written.
-    // Refused: film_goes_on_after_a_halted_frame, film_starts_at_power_on*, film_leaves_out_the_last_frame*,
-    // film_names_the_next_frame*, film_counts_the_last_picture_alone*,
+    // Refused: film_goes_on_after_a_halted_frame, film_starts_at_power_on, film_leaves_out_the_last_frame,
+    // film_names_the_next_frame, film_counts_the_last_picture_alone*,
     // picture_written_row_by_row_is_not_counted_with_those_before*.
     ensures { IsFilm movie.now from to (W.contents output.old) (W.contents output.new) result }
 {

@@ -87,7 +87,7 @@ impl<A: Allocator> Pixmaps<A> {
         ensures pixmap { OnOk result
             (self.new ≡ self.old ++ ppm_bytes (picture_of movie.now frame)) }
         // A frame that is played and halted is reported as halted and as nothing else.
-        // Refused: halted_frame_is_reported_as_out_of_memory.
+        // Refused: halted_frame_is_reported_as_out_of_memory, export_names_the_frame_before_a_halt.
         ensures stop { IfErr result (IsStopAt movie.now frame) }
         ensures meter { meter.new ≡ meter.old + 1 }
     {

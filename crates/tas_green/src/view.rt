@@ -137,7 +137,7 @@ impl<A: Allocator> View<A> {
 
     /// Whether a state is kept after `frame` frames.
     pub fn holds(&self, frame: usize) -> bool
-        // Refused: view_holds_looks_one_frame_later*.
+        // Refused: view_holds_looks_one_frame_later.
         ensures { result ≡ is_some (state_at frame self.now.states) }
     {
         holds_at(self.states.as_slice(), frame)
@@ -146,7 +146,7 @@ impl<A: Allocator> View<A> {
     /// The greatest place of a kept state that is at most `k`, in frames from power-on; 0 where
     /// there is none.
     pub fn nearest(&self, k: usize) -> usize
-        // Refused: nearest_of_a_view_is_that_of_half_the_frames*.
+        // Refused: nearest_of_a_view_is_that_of_half_the_frames.
         ensures value { result ≡ nearest k self.now.states }
         ensures bound { result ≤ k }
     {
@@ -169,6 +169,7 @@ impl<A: Allocator> View<A> {
             (both_of self.old) (both_of self.new) reached.ran) }
         ensures lawful { AreOfMovie self.new }
         // The same state again plays no frame then, and the next one plays one.
+        // Refused: none, it follows from `kept`, which says what both lists have then.
         ensures forward { OnOk result (IsOneAway self.new.movie frames (both_of self.new)) }
         ensures past { OnErr result (length self.old.movie.inputs < frames) }
         ensures unchanged { OnErr result (self.new ≡ self.old) }
@@ -203,6 +204,7 @@ impl<A: Allocator> View<A> {
             self.old.states self.new.states 0 viewed.ran) }
         ensures lawful { AreOfMovie self.new }
         // Where all of the grid is kept, no more than a stride's frames are played.
+        // Refused: none, it follows from `kept`, by which `ran` is exact.
         ensures short { IfOk result (λ viewed.
             HoldsGrid (stride (length self.old.movie.inputs)) k self.old.states
             → viewed.ran ≤ stride (length self.old.movie.inputs)) }
@@ -253,6 +255,7 @@ impl<A: Allocator> View<A> {
         ensures lawful { AreOfMovie self.new }
         // Where all of the grid is kept, a frame whose state is in the window is played alone, and no more than a stride's
         // frames are played for any.
+        // Refused: none, it follows from `kept`, by which `ran` is exact.
         ensures step { IfOk result
             (λ viewed. HoldsGrid (stride (length self.old.movie.inputs)) k self.old.states
             → IsSome (state_at k self.old.near) → viewed.ran ≡ 1) }
@@ -260,6 +263,7 @@ impl<A: Allocator> View<A> {
             (λ viewed. HoldsGrid (stride (length self.old.movie.inputs)) k self.old.states
             → viewed.ran ≤ stride (length self.old.movie.inputs)) }
         // A step forward then plays one frame, and so does a view of each near frame whose state was played or was one away.
+        // Refused: none, it follows from `kept`, which says what both lists have then.
         ensures forward { OnOk result (IsOneAway self.new.movie (k + 1) (both_of self.new)) }
         ensures near { IfOk result
             (λ viewed. (j : ℕ) → is_near (k + 1) j ≡ true
@@ -369,7 +373,7 @@ impl<A: Allocator> View<A> {
     /// A job for the movie's first `near` frames, or for all where there are fewer, from the nearest
     /// kept state among them. `AllocError` where memory is refused.
     pub fn job<B: Allocator + Copy>(&self, alloc: B, near: usize) -> Result<Job<B>, AllocError>
-        // Refused: job_of_a_view_of_half_the_frames*.
+        // Refused: job_of_a_view_of_half_the_frames.
         ensures cart { IfOk result (λ job. job.cart ≡ self.now.movie.cart) }
         ensures inputs { IfOk result (λ job. job.inputs
             ≡ take (min near (length self.now.movie.inputs)) self.now.movie.inputs) }

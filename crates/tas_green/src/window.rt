@@ -46,7 +46,7 @@ pub struct ReachedState {
 /// The limits are those of the definitions: 64 frames, a mark each 16 frames for 512 frames, and 98 states.
 pub fn window_limits_are_exact()
     // The window's limits are those of the definitions.
-    // Refused: window_of_63_frames*.
+    // Refused: window_of_63_frames.
     ensures before { MAX_BEFORE ≡ most_before }
     ensures distance { MARK_DISTANCE ≡ mark_distance }
     ensures marked { MAX_MARKED ≡ most_marked }

@@ -194,7 +194,7 @@ fn tell_all<A: Allocator>(writer: &mut MovieWriter<A>, reader: &mut RuledReader<
     ensures learned { view reader.new.place
         ≡ learned (view reader.old.place) (view writer.old.desk.place) }
     // A reader that learns has seen no less than before.
-    // Refused: reader_forgets_what_it_had_seen*.
+    // Refused: reader_forgets_what_it_had_seen.
     ensures grows { IsPrefix (view reader.old.place).seen (view reader.new.place).seen }
 {
     reader.learn::<TellAll>(writer.tell::<TellAll>());
@@ -438,7 +438,7 @@ impl<A: Allocator> Publisher<A> {
 
     /// The history, in order.
     pub fn journal(&self) -> &[Entry<A>]
-        // Refused: journal_without_its_first_half*.
+        // Refused: journal_without_its_first_half.
         ensures { result.now ≡ self.now.journal }
     {
         self.journal.as_slice()

@@ -8,7 +8,8 @@ ghost use Rattle.tas_published.specs.Strokes.{edits_of, refusal_in};
 use std::alloc::{Allocator, Global};
 use tas_movie::{Edit, EditRefusal, Movie, check, check_insertion, check_place};
 
-/// None, one or two edits that are made as one step. Nobody sees the movie between the two.
+/// None, one or two edits that are made as one step. They are published at once; that nobody sees the movie between the two is tested, not
+/// proved.
 #[derive(Drop)]
 pub enum Stroke<A: Allocator = Global> {
     /// No edit.
@@ -36,7 +37,7 @@ impl<A: Allocator> Stroke<A> {
 
     /// Whether a movie allows its edits, one after the other; else why it refuses the first that it refuses. It takes no memory.
     pub fn check<B: Allocator>(&self, movie: &Movie<B>) -> Result<(), EditRefusal>
-        // Refused: second_edit_is_checked_in_the_movie_before*.
+        // Refused: second_edit_is_checked_in_the_movie_before.
         ensures { result ≡ check_answer (refusal_in movie.now (edits_of self.now)) }
     {
         match self {
