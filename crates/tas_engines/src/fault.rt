@@ -181,7 +181,7 @@ impl From<CartError> for RunFault {
 impl From<ReadError> for RunFault {
     ghost from_gives = { λ error fault. fault ≡ text_fault error };
 
-    // Refused: text_error_becomes_a_size*.
+    // Refused: text_error_becomes_a_size.
     fn from(error: ReadError) -> RunFault {
         match error {
             ReadError::Text(error) => RunFault::Text(error),
@@ -202,7 +202,7 @@ impl From<WriteFault> for RunFault {
     ghost from_gives = { λ error fault. fault ≡ WriteFailed error.written };
 
     // Of a failed write the number of bytes alone is passed on.
-    // Refused: write_error_becomes_half_its_bytes*.
+    // Refused: write_error_becomes_half_its_bytes.
     fn from(error: WriteFault) -> RunFault {
         RunFault::Write {
             written: error.written,
@@ -214,7 +214,7 @@ impl From<ReadFault> for ToolFault {
     ghost from_gives = { λ fault e. e ≡ Unread fault };
 
     // A fault of reading is passed on as it is.
-    // Refused: long_input_reported_as_out_of_memory*.
+    // Refused: long_input_reported_as_out_of_memory.
     fn from(fault: ReadFault) -> ToolFault {
         ToolFault::Read(fault)
     }

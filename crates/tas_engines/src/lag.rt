@@ -120,7 +120,7 @@ pub struct Lag;
 impl Text for Lag {
     // `tas lag` reads cartridge and text whole, and writes the lines of the movie's stretches of lag frames, or ends
     // with a fault of the reading or of the movie and nothing written, or with `Write`.
-    // Refused: last_stretch_is_left_out*, stretch_of_no_frames_is_reported*.
+    // Refused: last_stretch_is_left_out, stretch_of_no_frames_is_reported.
     ghost answers = { λ _. OfTwo IsLagAnswer };
 
     fn text<A: Allocator + Copy>(

@@ -39,7 +39,7 @@ pub fn check_change(len: usize, change: Change) -> Result<(), EditRefusal>
 
 /// The edit that a change asks for. `AllocError` where the room for the copies of the input is refused.
 pub fn edit_of<A: Allocator>(alloc: A, change: Change) -> Result<Edit<A>, AllocError>
-    // Refused: half_of_the_copies_are_put_in*.
+    // Refused: half_of_the_copies_are_put_in.
     ensures edit { IfOk result (λ edit. edit ≡ edit_on A change) }
     ensures memory { OnErr result (BringsCopies change) }
 {

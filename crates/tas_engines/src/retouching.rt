@@ -59,7 +59,7 @@ fn stick_released(stick: Stick, less: Stick) -> Stick
 
 /// The input with all pressed that another one has pressed; the rest stays.
 pub fn pressed_too(input: Input, more: Input) -> Input
-    // Refused: left_stick_is_pressed_by_the_right_one*.
+    // Refused: left_stick_is_pressed_by_the_right_one.
     ensures { result ≡ pressed_too input more }
 {
     Input {

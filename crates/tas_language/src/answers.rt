@@ -36,7 +36,7 @@ pub fn picture_answer<A: Allocator + Copy, B: Allocator>(
     picture: &Picture<B>,
 ) -> Result<Vec<u8, A>, AllocError>
     // Answers are the definitions' texts: a line that says how many bytes follow, and these; frames of states.
-    // Refused: half_of_the_pictures_bytes_are_reported*.
+    // Refused: half_of_the_pictures_bytes_are_reported.
     ensures { IfOk result (λ bytes. bytes.items ≡ picture_text at frame (ppm_bytes picture.now)) }
 {
     let mut bytes = format!(in alloc; "picture {at} {frame} {PIXMAP_SIZE}\n")?.into_bytes();
@@ -51,7 +51,7 @@ pub fn movie_answer<A: Allocator + Copy, B: Allocator>(
     at: u64,
     movie: &Movie<B>,
 ) -> Result<Vec<u8, A>, AllocError>
-    // Refused: half_of_the_movies_text_is_reported*.
+    // Refused: half_of_the_movies_text_is_reported.
     ensures { IfOk result (λ bytes. bytes.items ≡ movie_text at (text2 movie.now)) }
 {
     let text = print_text(alloc, movie)?;

@@ -157,7 +157,7 @@ pub fn push_entry<A: Allocator, B: Allocator>(
     seat: u32,
     edit: &Edit<B>,
 ) -> Result<(), AllocError>
-    // Refused: seat_and_number_of_an_entry_are_swapped*, entry_is_numbered_by_its_seat*.
+    // Refused: seat_and_number_of_an_entry_are_swapped, entry_is_numbered_by_its_seat*.
     ensures text { OnOk result
         (text.new.items ≡ text.old.items ++ entry_text number seat edit.now) }
     ensures cartridge { OnOk result (LoadsCartridge edit.now) }
@@ -188,7 +188,7 @@ pub fn history_answer<A: Allocator>(
     count: usize,
     lines: &[u8],
 ) -> Result<Vec<u8, A>, AllocError>
-    // Refused: half_of_the_historys_bytes_are_reported*.
+    // Refused: half_of_the_historys_bytes_are_reported.
     ensures { IfOk result (λ bytes. bytes.items ≡ history_text at from count lines.now) }
 {
     let mut bytes = history_head(alloc, at, from, count, lines.len())?;

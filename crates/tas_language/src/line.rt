@@ -57,7 +57,7 @@ impl<A: Allocator> Line<A> {
 
     /// Begins the next line.
     pub fn clear(&mut self)
-        // Refused: line_after_a_long_one_is_too_long*.
+        // Refused: line_after_a_long_one_is_too_long.
         ensures { HoldsLine [] self.new.bytes.items self.new.long }
     {
         self.bytes.clear();
@@ -66,7 +66,7 @@ impl<A: Allocator> Line<A> {
 
     /// Whether there are no bytes.
     pub fn is_empty(&self) -> bool
-        // Refused: last_line_is_reported_as_none*.
+        // Refused: last_line_is_reported_as_none.
         ensures none { result ≡ true → (said : List ℕ)
             → HoldsLine said self.now.bytes.items self.now.long → said ≡ [] }
         ensures some { result ≡ false → (said : List ℕ)

@@ -32,7 +32,7 @@ pub fn ram_answer<A: Allocator>(
 ) -> Result<Vec<u8, A>, AllocError>
     // RAM is reported by two upper case digits for each byte, and a frame's digests are the SHA-256 of these bytes and
     // of the pixmap; lag frames by a line that says how many bytes follow, and their lines.
-    // Refused: half_of_ram_is_reported*.
+    // Refused: half_of_ram_is_reported.
     ensures { IfOk result (λ bytes. bytes.items ≡ ram_text at frames ram.now) }
 {
     let mut bytes = format!(in alloc; "ram {at} {frames} ")?.into_bytes();
@@ -83,7 +83,7 @@ pub fn lag_answer<A: Allocator>(
     to: usize,
     lines: &[u8],
 ) -> Result<Vec<u8, A>, AllocError>
-    // Refused: half_of_the_lag_lines_are_reported*.
+    // Refused: half_of_the_lag_lines_are_reported.
     ensures { IfOk result (λ bytes. bytes.items ≡ lag_text at from to lines.now) }
 {
     let mut bytes = lag_head(alloc, at, from, to, lines.len())?;

@@ -16,7 +16,7 @@ use crate::{Change, Command, Image, Request, read_retouch};
 /// What a line, without its newline, asks for; nothing where it isn't understood. Takes no memory.
 pub fn parse_line(line: &[u8]) -> Option<Command>
     // A script's line is understood exactly where it is a text of a command; the definitions have no grammar.
-    // Refused: greatest_number_has_six_digits*, part_up_to_the_images_end_is_refused*, letter_g_is_a_digit*,
+    // Refused: greatest_number_has_six_digits, part_up_to_the_images_end_is_refused, letter_g_is_a_digit*,
     // delete_line_with_its_numbers_swapped*, work_line_is_read_as_a_shot*,
     // bytes_of_a_part_go_to_the_image_with_nibbles_swapped*.
     ensures some { IfSome result (Says line.now) }

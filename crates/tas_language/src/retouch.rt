@@ -55,7 +55,7 @@ pub enum Retouch {
 pub fn read_retouch(line: &[u8]) -> Option<Retouch>
     // A line that depends on the movie's frames, and a line of `tas edit`, are understood exactly where they are the
     // text of what they say.
-    // Refused: press_line_is_read_as_a_release*, copy_line_has_its_places_swapped*.
+    // Refused: press_line_is_read_as_a_release, copy_line_has_its_places_swapped.
     ensures some { IfSome result (IsRetouchLine line.now) }
     ensures none { IfNone result ((retouch : Asked) → IsRetouchLine line.now retouch → ⊥) }
 {
