@@ -86,7 +86,7 @@ fn is_behind(to_come: u64) -> bool
 /// Whether the next growth is the one that is refused, where so many are to come up to that one.
 fn is_next(to_come: u64) -> bool
     // A count of 1 says that the next growth is the one to refuse.
-    // Refused: no_growth_is_refused*, each_growth_from_then_on_is_refused*, the_growth_before_is_refused*.
+    // Refused: no_growth_is_refused, each_growth_from_then_on_is_refused*, the_growth_before_is_refused*.
     ensures { IsTrue result ↔ to_come ≡ 1 }
 {
     to_come == 1

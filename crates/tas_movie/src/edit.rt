@@ -63,7 +63,7 @@ impl<A: Allocator> Edit<A> {
 
     /// An equal edit, on an allocator of the same type. `AllocError` where memory is refused.
     pub fn copy(&self, alloc: A) -> Result<Edit<A>, AllocError>
-        // Refused: deletion_copied_with_one_less*.
+        // Refused: deletion_copied_with_one_less.
         ensures { IfOk result (λ edit. edit ≡ self.now) }
     {
         match self {

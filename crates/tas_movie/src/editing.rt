@@ -18,7 +18,7 @@ pub fn check<A: Allocator, B: Allocator>(
 ) -> Result<(), EditRefusal>
     // An edit is refused exactly as its definition says: first its place, then the length; places and lengths are whole
     // numbers.
-    // Refused: replace_past_the_end_is_allowed*.
+    // Refused: replace_past_the_end_is_allowed.
     ensures { result ≡ check_answer (refusal movie.now edit.now) }
 {
     let len = movie.len();
@@ -48,7 +48,7 @@ pub fn check_insertion(len: usize, at: usize, count: usize) -> Result<(), EditRe
 /// Whether a movie with `len` inputs has the `count` inputs from the place `at` on: `Place` where
 /// they reach past the last one.
 pub fn check_place(len: usize, at: usize, count: usize) -> Result<(), EditRefusal>
-    // Refused: stretch_past_the_end_is_allowed*.
+    // Refused: stretch_past_the_end_is_allowed.
     ensures { result ≡ check_answer (place_refusal len at (at + count)) }
 {
     if at > len || count > len - at {

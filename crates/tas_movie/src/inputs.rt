@@ -26,7 +26,7 @@ impl<A: Allocator> Inputs<A> {
     /// The inputs of this list, in its order.
     pub fn from_vec(list: Vec<Input, A>) -> Inputs<A>
         // A list of inputs is made of a `Vec` and gives it back.
-        // Refused: list_taken_shortened*.
+        // Refused: list_taken_shortened.
         ensures { result ≡ list.items }
     {
         Self { list }
@@ -44,7 +44,7 @@ impl<A: Allocator> Inputs<A> {
 
     /// The list that holds the inputs.
     pub fn into_vec(self) -> Vec<Input, A>
-        // Refused: list_given_back_shortened*.
+        // Refused: list_given_back_shortened.
         ensures { result.items ≡ self }
     {
         let Inputs { list } = self;
@@ -61,7 +61,7 @@ impl<A: Allocator> Inputs<A> {
 
     /// An equal list. `AllocError` where memory is refused.
     pub fn copy<B: Allocator>(&self, alloc: B) -> Result<Inputs<B>, AllocError>
-        // Refused: inputs_copied_without_the_first*.
+        // Refused: inputs_copied_without_the_first.
         ensures { IfOk result (λ inputs. inputs ≡ self.now) }
     {
         let list = Vec::from_slice(alloc, self.as_slice())?;

@@ -90,7 +90,7 @@ impl<A: Allocator> Movie<A> {
 
     /// How many inputs there are: the movie's length in frames.
     pub fn len(&self) -> usize
-        // Refused: length_counts_one_more*.
+        // Refused: length_counts_one_more.
         ensures len { result ≡ length self.now.inputs }
         ensures bound { result ≤ most_inputs }
     {
@@ -107,7 +107,7 @@ impl<A: Allocator> Movie<A> {
 
     /// The inputs, in order.
     pub fn inputs(&self) -> &[Input]
-        // Refused: inputs_without_the_last*.
+        // Refused: inputs_without_the_last.
         ensures inputs { result.now ≡ self.now.inputs }
         ensures bound { length self.now.inputs ≤ most_inputs }
     {
@@ -117,7 +117,7 @@ impl<A: Allocator> Movie<A> {
     /// The input of frame `k`, counted from 0; `len` says how many there are.
     pub fn input(&self, k: usize) -> Input
         requires { k < length self.now.inputs }
-        // Refused: input_of_the_frame_before*.
+        // Refused: input_of_the_frame_before.
         ensures { slice_get self.now.inputs k ≡ Some result }
     {
         self.list[k]

@@ -68,7 +68,7 @@ fn shown_input(line: &[u8]) -> Input
 /// none.
 pub fn read_frame(line: &[u8]) -> Option<Input>
     // The 17 characters of an input are read as that input and no other, and nothing else is read.
-    // Refused: any_letter_is_a_frame*, black_and_white_frame_is_refused*.
+    // Refused: any_letter_is_a_frame, black_and_white_frame_is_refused*.
     ensures some { IfSome result (λ input. line.now ≡ frame_text input) }
     ensures all { (input : Input) → line.now ≡ frame_text input → result ≡ Some input }
     ensures is_frame { OnSome result (is_frame line.now ≡ true) }
