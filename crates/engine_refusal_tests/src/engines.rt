@@ -79,7 +79,7 @@ pub static ENGINES: [Row; 23] = [
     (Engine::Shot, MOVIE, (7, 0)),
     (Engine::Film, MOVIE, (7, 0)),
     (Engine::Ram, MOVIE, (6, 0)),
-    (Engine::Digest, MOVIE, (15, 0)),
+    (Engine::Digest, MOVIE, (16, 0)),
     (Engine::Compare, TWO_MOVIES, (17, 0)),
     (Engine::Lag, MOVIE, (7, 0)),
     (Engine::Cut, MOVIE, (7, 0)),

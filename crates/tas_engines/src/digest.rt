@@ -102,15 +102,43 @@ fn play_stretch<A: Allocator, B: Allocator>(
     Ok(digits_of(hasher.finalize()))
 }
 
-/// The digits of the digest of a picture's pixmap, which is made in `buffer`.
-fn picture_digest<A: Allocator, B: Allocator>(
-    picture: &Picture<A>,
-    buffer: &mut Vec<u8, B>,
-) -> Result<[u8; DIGITS], AllocError>
-    ensures { IfOk result (λ digits. digits ≡ digest_of (ppm_bytes picture.now)) }
-{
-    fill_pixmap(picture, buffer)?;
-    Ok(digest_of(buffer.as_slice()))
+/// Pixmaps of pictures that follow one another, of which equal ones are hashed once.
+#[derive(Drop)]
+struct Pixmaps<A: Allocator> {
+    /// The last picture's.
+    made: Vec<u8, A>,
+    /// The one that was hashed last.
+    hashed: Vec<u8, A>,
+    /// The digits of its digest.
+    digits: [u8; DIGITS],
+}
+
+impl<A: Allocator + Copy> Pixmaps<A> {
+    /// No picture's, with room for those that come.
+    fn new(alloc: A) -> Result<Pixmaps<A>, AllocError>
+        ensures { IfOk result (λ pixmaps. pixmaps.digits ≡ digest_of pixmaps.hashed.items) }
+    {
+        Ok(Pixmaps {
+            made: Vec::with_capacity(alloc, PIXMAP_SIZE)?,
+            hashed: Vec::with_capacity(alloc, PIXMAP_SIZE)?,
+            digits: digest_of(&[]),
+        })
+    }
+
+    /// The digits of the digest of a picture's pixmap.
+    fn digest<B: Allocator>(&mut self, picture: &Picture<B>) -> Result<[u8; DIGITS], AllocError>
+        requires { self.old.digits ≡ digest_of self.old.hashed.items }
+        ensures digits { IfOk result (λ digits. digits ≡ digest_of (ppm_bytes picture.now)) }
+        ensures hashed { OnOk result (self.new.digits ≡ digest_of self.new.hashed.items) }
+    {
+        fill_pixmap(picture, &mut self.made)?;
+        if self.made.as_slice() != self.hashed.as_slice() {
+            self.hashed.clear();
+            self.hashed.extend_from_slice(self.made.as_slice())?;
+            self.digits = digest_of(self.hashed.as_slice());
+        }
+        Ok(self.digits)
+    }
 }
 
 /// Adds a number in decimal digits.
@@ -149,19 +177,21 @@ fn push_stretch<A: Allocator>(out: &mut Vec<u8, A>, stretch: &Stretch) -> Result
     Ok(())
 }
 
-/// Plays the frames of a stretch, from `from` to `to` - 1, and makes the two digests, that of the pixmap in `buffer`.
-fn digest_stretch<A: Allocator, B: Allocator>(
+/// Plays the frames of a stretch, from `from` to `to` - 1, and makes the two digests.
+fn digest_stretch<A: Allocator, B: Allocator + Copy>(
     movie: &Movie<A>,
     from: usize,
     to: usize,
     state: &mut State,
     picture: &mut Picture<B>,
-    buffer: &mut Vec<u8, B>,
+    pixmaps: &mut Pixmaps<B>,
 ) -> Result<Stretch, RunFault>
     requires order { from < to }
     requires within { to ≤ length movie.now.inputs }
     requires start { state.old ≡ state_after movie.now from }
+    requires hashed { pixmaps.old.digits ≡ digest_of pixmaps.old.hashed.items }
     ensures state { OnOk result (state.new ≡ state_after movie.now to) }
+    ensures hashed { OnOk result (pixmaps.new.digits ≡ digest_of pixmaps.new.hashed.items) }
     ensures drawn { OnOk result
         ((f : ℕ) → from ≤ f → f < to → (state_after movie.now (f + 1)).halt ≡ None) }
     ensures digests { IfOk result (λ stretch. stretch ≡ record {
@@ -174,7 +204,7 @@ fn digest_stretch<A: Allocator, B: Allocator>(
 {
     match play_stretch(movie, from, to, state, picture) {
         Ok(ram) => {
-            let picture = picture_digest(picture, buffer)?;
+            let picture = pixmaps.digest(picture)?;
             Ok(Stretch {
                 from,
                 to,
@@ -205,11 +235,11 @@ fn push_stretches<A: Allocator + Copy>(
     let len = movie.len();
     let mut state = State::power_on(movie.cart());
     let mut picture = Picture::blank(alloc)?;
-    let mut buffer = Vec::with_capacity(alloc, PIXMAP_SIZE)?;
+    let mut pixmaps = Pixmaps::new(alloc)?;
     for i in 0..len.div_ceil(every) {
         let from = i * every;
         let to = from + every.min(len - from);
-        let stretch = digest_stretch(movie, from, to, &mut state, &mut picture, &mut buffer)?;
+        let stretch = digest_stretch(movie, from, to, &mut state, &mut picture, &mut pixmaps)?;
         push_stretch(out, &stretch)?;
     }
     Ok(())
@@ -297,7 +327,7 @@ impl Text for Digest {
     // `tas digest` writes the digests of the cartridge, of the movie's text of runs, and for each stretch of EVERY
     // frames those of RAM after each frame and of the last frame's pixmap; none of the movie's frames is halted then.
     // `Halted` only with the halt of such a frame, and nothing written; `Memory` with nothing written.
-    // Refused: picture_of_a_stretch_is_its_first, stretch_has_its_last_frame_alone*,
+    // Refused: picture_of_a_stretch_is_its_first, first_picture_stands_for_all, stretch_has_its_last_frame_alone*,
     // stretch_leaves_its_last_frame_out*, digest_of_the_padded_image*, halted_frames_have_a_digest*.
     ghost answers = { λ digest. OfTwo (IsDigestAnswer (max digest.every 1)) };
 

@@ -17,6 +17,7 @@ loop-i-init g c =
     record {
       state = c.power_on-state.ensures ∙ ap power_on c.cart.ensures ∙ after_none movie.cart movie.inputs ∙ ap (state_after movie) none;
       drawn = λ f lt. absurd (omega (arith, lt));
+      hashed = c.in_ok-pixmaps.ensures;
       text = sym (append-nil c.args.out.now.items);
     }
 
@@ -43,6 +44,7 @@ loop-i-preserved g c =
             | inl before ↦ c.loop-i.invariant.drawn f (omega (arith, before, lt))
             | inr here ↦ c.in_ok-stretch.ensures.drawn f here (omega (arith, below, to))
           ];
+      hashed = c.in_ok-stretch.ensures.hashed;
       text = c.in_ok-push_stretch.ensures ∙ shown ∙ line ∙ ap (λ (bs : List ℕ). bs ++ line_of_stretch every movie i) c.loop-i.invariant.text
           ∙ append_assoc c.args.out.now.items (pieces (line_of_stretch every movie) 0 i) (line_of_stretch every movie i)
           ∙ ap (λ (bs : List ℕ). c.args.out.now.items ++ bs) (pieces_more (line_of_stretch every movie) 0 i (omega arith));
