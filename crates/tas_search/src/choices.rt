@@ -8,23 +8,28 @@ ghost use Rattle.tas_search.specs.StickChoices.{pushed, stick_choices};
 use byte_text::split_once;
 use std::alloc::{AllocError, AllocFailed, Allocator};
 use tas_movie::read_frame;
+use thiserror::Error;
 use vcs_inputs::Input;
 
 /// What is wrong with a line of a choices file.
-#[derive(Clone, Copy, Debug, PartialEq, Eq)]
+#[derive(Clone, Copy, Debug, PartialEq, Eq, Error)]
 pub enum ChoicesFaultKind {
     /// No newline ends the line, or there is no line at all.
+    #[error("end")]
     End,
     /// The line is no frame.
+    #[error("frame")]
     Frame,
 }
 
 /// Why no choices were read.
-#[derive(Clone, Copy, Debug, PartialEq, Eq)]
+#[derive(Clone, Copy, Debug, PartialEq, Eq, Error)]
 pub enum ChoicesError {
     /// Out of memory.
+    #[error("out of memory")]
     Memory,
     /// The first line at fault.
+    #[error("choices line {line}: {kind}")]
     Line {
         /// The line's number, counted from 1.
         line: usize,

@@ -23,6 +23,7 @@ use crate::reading_words::words_in;
 use crate::word::Wanted;
 use byte_text::split_once;
 use std::alloc::{AllocError, Allocator, Global};
+use thiserror::Error;
 
 /// What a goal asks for.
 #[derive(Clone, Copy, Debug, PartialEq, Eq)]
@@ -45,13 +46,16 @@ pub struct Goal {
 }
 
 /// Why a text is no goal.
-#[derive(Clone, Copy, Debug, PartialEq, Eq)]
+#[derive(Clone, Copy, Debug, PartialEq, Eq, Error)]
 pub enum GoalFault {
     /// Out of memory.
+    #[error("out of memory")]
     Memory,
     /// The text begins with none of `reach`, `most` and `least` and a space.
+    #[error("goal word 1: reach, most or least expected")]
     Kind,
     /// The words are no expression.
+    #[error("goal word {word}: {wanted}")]
     Word {
         /// The first word at fault, counted from 1, of which `reach` is the first; one past the last where words are missing.
         word: usize,
@@ -59,6 +63,7 @@ pub enum GoalFault {
         wanted: Wanted,
     },
     /// The expression is too large: its weight is 2 to the power of 63 or more.
+    #[error("goal: too large")]
     Great,
 }
 

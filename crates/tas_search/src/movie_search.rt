@@ -16,6 +16,7 @@ use crate::starting::state_at;
 use std::alloc::{AllocError, Allocator};
 use tas_language::Change;
 use tas_movie::{MAX_FRAMES, Movie};
+use thiserror::Error;
 use vcs_inputs::Input;
 
 /// Where a search of a movie begins and how far it goes.
@@ -32,15 +33,19 @@ pub struct SearchRange {
 }
 
 /// Why a movie's space wasn't searched.
-#[derive(Clone, Copy, Debug, PartialEq, Eq)]
+#[derive(Clone, Copy, Debug, PartialEq, Eq, Error)]
 pub enum SearchFault {
     /// The movie is too short for the search to begin there. It has this many frames.
+    #[error("movie has {0} frames")]
     Short(usize),
     /// A choice is held for no frame.
+    #[error("hold is 0")]
     Hold,
     /// With the longest sequences the movie would be too long.
+    #[error("movie gets too long")]
     Long,
     /// Out of memory.
+    #[error("out of memory")]
     Memory,
 }
 

@@ -14,27 +14,34 @@ use crate::name::Name;
 use crate::reading_words::{address_of, named, operator_word, sign_word};
 use byte_text::split_once;
 use std::alloc::{AllocError, AllocFailed, Allocator};
+use thiserror::Error;
 
 /// What is wrong with a line of a names file.
-#[derive(Clone, Copy, Debug, PartialEq, Eq)]
+#[derive(Clone, Copy, Debug, PartialEq, Eq, Error)]
 pub enum NamesFaultKind {
     /// No newline ends the line.
+    #[error("end")]
     End,
     /// There is no space in the line.
+    #[error("space")]
     Space,
     /// After the space stands no address of RAM: two upper case hexadecimal digits, 80 to FF.
+    #[error("address")]
     Address,
     /// Before the space stands no name: something other than letters, digits and `_`, a digit first, nothing, a word of the grammar,
     /// an address or a name of an earlier line.
+    #[error("name")]
     Name,
 }
 
 /// Why no names were read.
-#[derive(Clone, Copy, Debug, PartialEq, Eq)]
+#[derive(Clone, Copy, Debug, PartialEq, Eq, Error)]
 pub enum NamesError {
     /// Out of memory.
+    #[error("out of memory")]
     Memory,
     /// The first line at fault.
+    #[error("names line {line}: {kind}")]
     Line {
         /// The line's number, counted from 1.
         line: usize,

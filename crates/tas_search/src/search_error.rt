@@ -17,25 +17,35 @@ use crate::movie_search::SearchFault;
 use crate::names::NamesError;
 use std::alloc::AllocError;
 use tas_engines::{ReadFault, RunFault};
+use thiserror::Error;
 
-/// Why a search has no answer. Its text is a line without the newline.
-#[derive(Clone, Copy, Debug, PartialEq, Eq)]
+/// Why a search has no answer. Its text is the line, without the newline, that the program writes to standard error; the program's status
+/// is then 1.
+#[derive(Clone, Copy, Debug, PartialEq, Eq, Error)]
 pub enum SearchError {
     /// An input wasn't read whole.
+    #[error("fault: {0}")]
     Read(ReadFault),
     /// The cartridge and the text make no movie; or a write failed, and the first bytes of the answer are out.
+    #[error("fault: {0}")]
     Run(RunFault),
     /// The choices file's first line at fault.
+    #[error("fault: {0}")]
     Choices(ChoicesError),
     /// The names file's first line at fault.
+    #[error("fault: {0}")]
     Names(NamesError),
     /// The goal's text is none.
+    #[error("fault: {0}")]
     Goal(GoalFault),
     /// A choice is held for no frame, or the frames are no multiple of those for which a choice is held.
+    #[error("fault: frames are no multiple of hold")]
     Frames,
     /// The movie's space can't be searched.
+    #[error("fault: {0}")]
     Search(SearchFault),
     /// Out of memory.
+    #[error("fault: out of memory")]
     Memory,
 }
 

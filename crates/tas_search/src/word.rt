@@ -1,6 +1,7 @@
 //! The words of an expression.
 
 use crate::expression::Operator;
+use thiserror::Error;
 
 /// A word of an expression.
 #[derive(Clone, Copy, Debug, PartialEq, Eq)]
@@ -26,16 +27,21 @@ pub(crate) enum Word {
 }
 
 /// What is wanted where words are no expression.
-#[derive(Clone, Copy, Debug, PartialEq, Eq)]
+#[derive(Clone, Copy, Debug, PartialEq, Eq, Error)]
 pub enum Wanted {
     /// An operand: a number, a byte, a pair, `not` or `(`.
+    #[error("operand expected")]
     Operand,
     /// An operator.
+    #[error("operator expected")]
     Operator,
     /// `)`
+    #[error(") expected")]
     Close,
     /// The end: the words before are an expression that nothing can follow.
+    #[error("end expected")]
     End,
     /// An operand without `not` and parentheses: 64 of them stand in one another here.
+    #[error("too deep")]
     Depth,
 }
