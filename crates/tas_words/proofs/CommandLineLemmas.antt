@@ -7,7 +7,7 @@ use Rattle.std.specs.Str.{bytes_eq}
 use Rattle.std.specs.Borrow.{Bor}
 use Rattle.clap.specs.Built.{AddsArg, AddsSubcommand}
 use Rattle.clap.specs.Simple.{App, Shape, HasMatchesOf, app_of, app_of_fields, new_app, with_rule, with_subcommand, label_of, on_top, rows_at, entered, built, names_of, is_simple, subcommand_of, subcommand_rows_of}
-use Rattle.clap.specs.Walk.{Row, Rule, Text, answers_to, one_of, rows_of, rule_of, stop_after}
+use Rattle.clap.specs.Walk.{Row, Rule, Text, answers_to, first_of, one_of, rows_of, rule_of, stop_after}
 use Rattle.clap.specs.declared.builder.arg.Arg.{Arg}
 use Rattle.clap.specs.declared.builder.command.Command.{Command}
 use Rattle.clap.specs.declared.builder.command.Command.TheViews.{out-Command}
@@ -15,7 +15,7 @@ use Rattle.clap.specs.declared.parser.matches.ArgMatches.{ArgMatches}
 use Rattle.clap.proofs.OnLiterals.{clap_on_literals}
 use Rattle.clap.proofs.SimpleLemmas.{label_first}
 use Rattle.tas_words.specs.CommandLine.{command_names, labels, own_flags, rule_of_word, shape_with, HasRules, HasWordsOf, IsAsked, command_line, empty_line, with_version}
-use Rattle.tas_words.specs.Task.{IsNumberText, IsNumberWord}
+use Rattle.tas_words.specs.Task.{IsNumberText, IsNumberWord, IsOptionalWord}
 use Rattle.tas_words.specs.declared.subcommands.Word.{Word}
 use Rattle.tas_words.specs.declared.task.Task.{Task}
 use Rattle.std.specs.Prelude.{Result, Ok, ℕ}
@@ -116,6 +116,11 @@ met_asked line words m task output is matches met =
     asked_at words (subcommand_rows_of m) task output (sym rows) met
 
 -- ---- the words of a command
+
+-- a word that may be left out, as it was found
+pub found_word : (rows : List Row) (name : Text) (word : Option (Bor Text)) → option_map (λ w. w.now) word ≡ first_of name rows → IsOptionalWord rows name word
+found_word rows name None is = sym is
+found_word rows name (Some w) is = sym is
 
 -- a number that was read, in its range
 pub number_read : {E : Type 0} (G : List ℕ → Result ℕ E → Type 0) (f : Found) (name : Text) (least most : ℕ) (r : Option ℕ) (n : ℕ) → (one_text f name ≡ None → r ≡ None) → ((t : Text) → one_text f name ≡ Some t → ReadsOne G t r)

@@ -16,7 +16,7 @@ use Rattle.tas_film.specs.Runs.{most_workers}
 use Rattle.tas_words.specs.declared.subcommands.Subcommand.{Subcommand}
 use Rattle.tas_words.specs.declared.subcommands.Word.{Word}
 use Rattle.tas_words.specs.declared.subcommands.WordKind.{WordKind}
-use Rattle.tas_words.specs.declared.subcommands.WordKind.TheVariants.{File, OptionalFile, PairedFile, Flag, Output, Number, OptionalNumber}
+use Rattle.tas_words.specs.declared.subcommands.WordKind.TheVariants.{File, OptionalFile, PairedFile, Flag, Output, Number, OptionalNumber, NumberFlag}
 use Rattle.tas_words.specs.declared.task.Task.{Task}
 use Rattle.tas_words.specs.Task.{HasWords, IsOptionalWord, most_traced, most_every}
 
@@ -79,6 +79,13 @@ flag_rule name flag = record (new_rule name) {
   is_free = false;
 }
 
+-- a number in a range after a flag, which may be left out
+abbrev pub number_flag_rule : Text → Text → ℕ → ℕ → Rule
+number_flag_rule name flag least most = record (may_number_rule name least most) {
+  long = Some flag;
+  value_names = 1;
+}
+
 -- a word after `-o` or `--output`
 abbrev pub output_rule : Text → Rule
 output_rule name = record (new_rule name) {
@@ -101,6 +108,7 @@ kind_rule name (Flag flag other) = flag_rule name flag.now
 kind_rule name Output = output_rule name
 kind_rule name (Number least most) = number_rule name least most
 kind_rule name (OptionalNumber least most) = may_number_rule name least most
+kind_rule name (NumberFlag flag least most) = number_flag_rule name flag.now least most
 
 abbrev pub rule_of_word : Word → Rule
 rule_of_word word = kind_rule word.name.now word.kind
@@ -163,10 +171,18 @@ first_shapes =
     ∷ []
 
 -- those after them
+abbrev pub next_shapes : List Shape
+next_shapes =
+    shape_with (codes "new") (cart_rule ∷ number_rule (codes "FRAMES") 0 most_inputs ∷ file_output_rule ∷ [])
+    ∷ shape_with (codes "search") (cart_rule ∷ frame_rule (codes "FROM") ∷ number_rule (codes "FRAMES") 0 most_inputs ∷ word_rule (codes "GOAL") None
+    ∷ flag_rule (codes "CHOICES") (codes "choices") ∷ flag_rule (codes "NAMES") (codes "names")
+    ∷ number_flag_rule (codes "N") (codes "hold") 1 most_inputs ∷ number_flag_rule (codes "STATES") (codes "most") 1 most_number ∷ [])
+    ∷ []
+
+-- those after them
 abbrev pub later_shapes : List Shape
 later_shapes =
-    shape_with (codes "new") (cart_rule ∷ number_rule (codes "FRAMES") 0 most_inputs ∷ file_output_rule ∷ [])
-    ∷ shape_with (codes "edit") (cart_rule ∷ file_rule (codes "SCRIPT") ∷ flag_rule (codes "OTHER") (codes "with") ∷ file_output_rule ∷ [])
+    shape_with (codes "edit") (cart_rule ∷ file_rule (codes "SCRIPT") ∷ flag_rule (codes "OTHER") (codes "with") ∷ file_output_rule ∷ [])
     ∷ shape_with (codes "cut") (cart_rule ∷ frame_rule (codes "FROM") ∷ frame_rule (codes "TO") ∷ file_output_rule ∷ [])
     ∷ shape_with (codes "diff") (cart_rule ∷ file_rule (codes "OLD") ∷ file_output_rule ∷ [])
     ∷ shape_with (codes "script") (flag_rule (codes "CART") (codes "cart") ∷ flag_rule (codes "MOVIE") (codes "movie") ∷ [])
@@ -182,12 +198,16 @@ abbrev pub first_line : App
 first_line = line_of first_shapes
 
 -- the first two parts
+abbrev pub next_line : App
+next_line = line_of (first_shapes ++ next_shapes)
+
+-- the first three
 abbrev pub later_line : App
-later_line = line_of (first_shapes ++ later_shapes)
+later_line = line_of (first_shapes ++ next_shapes ++ later_shapes)
 
 -- all its parts
 abbrev pub last_line : App
-last_line = line_of (first_shapes ++ later_shapes ++ last_shapes)
+last_line = line_of (first_shapes ++ next_shapes ++ later_shapes ++ last_shapes)
 
 -- a command line with a version
 abbrev pub with_version : App → App

@@ -9,7 +9,7 @@ use Rattle.clap.specs.declared.builder.command.Command.TheViews.{out-Command}
 use Rattle.tas_words.specs.declared.subcommands.Subcommand.{Subcommand}
 use Rattle.tas_words.specs.declared.subcommands.Word.{Word}
 use Rattle.tas_words.specs.declared.subcommands.WordKind.{WordKind}
-use Rattle.tas_words.specs.declared.subcommands.WordKind.TheVariants.{File, OptionalFile, PairedFile, Flag, Output, Number, OptionalNumber}
+use Rattle.tas_words.specs.declared.subcommands.WordKind.TheVariants.{File, OptionalFile, PairedFile, Flag, Output, Number, OptionalNumber, NumberFlag}
 
 -- a command's name, its usage, its tip if it reads standard input, and of each word that stands after no flag whether it is a number
 pub record Guide : Type 0 where
@@ -30,6 +30,7 @@ kind_number (Flag flag other) = None
 kind_number Output = None
 kind_number (Number least most) = Some true
 kind_number (OptionalNumber least most) = Some true
+kind_number (NumberFlag flag least most) = None
 
 abbrev pub numbers_of : List Word → List Bool
 numbers_of words = filter_map (λ word. kind_number word.kind) words
@@ -50,6 +51,7 @@ usage_word name (Flag flag other) = []
 usage_word name Output = []
 usage_word name (Number least most) = codes " <" ++ name ++ codes ">"
 usage_word name (OptionalNumber least most) = codes " [" ++ name ++ codes "]"
+usage_word name (NumberFlag flag least most) = []
 
 abbrev pub usage_words : List Word → Text
 usage_words [] = []
@@ -59,6 +61,7 @@ usage_words (word ∷ words) = usage_word word.name.now word.kind ++ usage_words
 abbrev pub is_flagged : WordKind → Bool
 is_flagged (Flag flag other) = true
 is_flagged Output = true
+is_flagged (NumberFlag flag least most) = true
 is_flagged _ = false
 
 -- what a usage begins with: the command's name, whether it has flags, its words in order, and, where it has a tip, since it reads standard input, the sign of redirection
@@ -96,10 +99,17 @@ first_guides =
     ∷ []
 
 -- the guides of the commands after them
+abbrev pub next_guides : List Guide
+next_guides =
+    guide (codes "new") (codes "tas new [OPTIONS] <CART> <FRAMES>") None (false ∷ true ∷ [])
+    ∷ guide (codes "search") (codes "tas search [OPTIONS] <CART> <FROM> <FRAMES> <GOAL> < MOVIE")
+    (Some (codes "the movie is read from standard input: tas search game.bin 60 12 'reach byte:80 == 85' < game.movie")) (false ∷ true ∷ true ∷ false ∷ [])
+    ∷ []
+
+-- the guides of the commands after those
 abbrev pub later_guides : List Guide
 later_guides =
-    guide (codes "new") (codes "tas new [OPTIONS] <CART> <FRAMES>") None (false ∷ true ∷ [])
-    ∷ guide (codes "edit") (codes "tas edit [OPTIONS] <CART> <SCRIPT> < MOVIE")
+    guide (codes "edit") (codes "tas edit [OPTIONS] <CART> <SCRIPT> < MOVIE")
     (Some (codes "the movie is read from standard input: tas edit game.bin fix.script -o new.movie < game.movie")) (false ∷ false ∷ [])
     ∷ guide (codes "cut") (codes "tas cut [OPTIONS] <CART> <FROM> <TO> < MOVIE")
     (Some (codes "the movie is read from standard input: tas cut game.bin 60 120 -o new.movie < game.movie")) (false ∷ true ∷ true ∷ [])
@@ -153,7 +163,7 @@ or_else (Some first) second = Some first
 
 -- the command of this name
 abbrev pub guide_named : Text → Option Guide
-guide_named name = or_else (find (is_named name) first_guides) (or_else (find (is_named name) later_guides) (find (is_named name) last_guides))
+guide_named name = or_else (find (is_named name) first_guides) (or_else (find (is_named name) next_guides) (or_else (find (is_named name) later_guides) (find (is_named name) last_guides)))
 
 abbrev pub joined : {A : Type 0} → Option (Option A) → Option A
 joined None = None

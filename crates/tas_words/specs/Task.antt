@@ -9,10 +9,11 @@ use Rattle.tas_movie.specs.Content.{most_inputs}
 use Rattle.tas_film.specs.Runs.{most_workers}
 use Rattle.tas_words.specs.declared.task.Pair.{Pair}
 use Rattle.tas_words.specs.declared.task.Pairs.{Pairs}
+use Rattle.tas_words.specs.declared.task.SearchWords.{SearchWords}
 use Rattle.tas_words.specs.declared.task.Start.{Start}
 use Rattle.tas_words.specs.declared.task.Start.TheVariants.{Blank, Cart, Movie}
 use Rattle.tas_words.specs.declared.task.Task.{Task}
-use Rattle.tas_words.specs.declared.task.Task.TheVariants.{Trace, Check, Migrate, New, Shot, Film, Export, Ram, Digest, Compare, Lag, Edit, Cut, Diff, Script, Talk, Desk}
+use Rattle.tas_words.specs.declared.task.Task.TheVariants.{Trace, Check, Migrate, New, Search, Shot, Film, Export, Ram, Digest, Compare, Lag, Edit, Cut, Diff, Script, Talk, Desk}
 
 -- the word of this name is this text
 abbrev pub IsWord : List Row → Text → Text → Type 0
@@ -60,9 +61,31 @@ most_every = 262144
 abbrev pub default_every : ℕ
 default_every = 600
 
--- the word EVERY is this number, or it is left out and the number is the usual one
+-- the word of this name is this number, from 1 to the most, or it is left out and the number is the usual one
+abbrev pub IsNumberOr : List Row → Text → ℕ → ℕ → ℕ → Type 0
+IsNumberOr rows name most usual n = IsNumberWord rows name 1 most n ⊎ (HasNoWord rows name × (n ≡ usual))
+
+-- how many frames a stretch of a digest has
 abbrev pub IsEvery : List Row → ℕ → Type 0
-IsEvery rows n = IsNumberWord rows (codes "EVERY") 1 most_every n ⊎ (HasNoWord rows (codes "EVERY") × (n ≡ default_every))
+IsEvery rows n = IsNumberOr rows (codes "EVERY") most_every default_every n
+
+-- for how many frames a search holds a choice if the words don't say it, and how many states of a layer it keeps at most then
+abbrev pub default_hold : ℕ
+default_hold = 1
+
+abbrev pub default_states : ℕ
+default_states = 100000
+
+-- the words are those of a search
+pub record AreSearchWords (rows : List Row) (words : SearchWords) : Type 0 where
+  pub cart : IsWord rows (codes "CART") words.cart.now
+  pub from : IsFrameWord rows (codes "FROM") words.from
+  pub frames : IsNumberWord rows (codes "FRAMES") 0 most_inputs words.frames
+  pub goal : IsWord rows (codes "GOAL") words.goal.now
+  pub choices : IsOptionalWord rows (codes "CHOICES") words.choices
+  pub names : IsOptionalWord rows (codes "NAMES") words.names
+  pub hold : IsNumberOr rows (codes "N") most_inputs default_hold words.hold
+  pub states : IsNumberOr rows (codes "STATES") most_number default_states words.states
 
 -- the words name what is started from: nothing, a cartridge, or a movie
 abbrev pub IsStart : List Row → Start → Type 0
@@ -102,6 +125,7 @@ HasWords name rows (Trace instructions) = (name ≡ codes "trace") × IsNumberWo
 HasWords name rows (Check cart) = (name ≡ codes "check") × IsWord rows (codes "CART") cart.now
 HasWords name rows (Migrate cart) = (name ≡ codes "migrate") × IsWord rows (codes "CART") cart.now
 HasWords name rows (New cart frames) = (name ≡ codes "new") × IsWord rows (codes "CART") cart.now × IsNumberWord rows (codes "FRAMES") 0 most_inputs frames
+HasWords name rows (Search words) = (name ≡ codes "search") × AreSearchWords rows words
 HasWords name rows (Shot cart k) = (name ≡ codes "shot") × IsWord rows (codes "CART") cart.now × IsFrameWord rows (codes "K") k
 HasWords name rows (Film cart from to) =
     (name ≡ codes "film") × IsWord rows (codes "CART") cart.now × IsOptionalFrameWord rows (codes "FROM") from × IsOptionalFrameWord rows (codes "TO") to

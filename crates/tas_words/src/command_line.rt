@@ -1,16 +1,17 @@
 //! The program's command line, as clap takes it.
 //!
-//! The commands are three lists with a contract each: the proof of one list with all texts met the checker's limit of
+//! The commands are four lists with a contract each: the proof of one list with all texts met the checker's limit of
 //! steps. `help` and `version` as words are the script's: here they would be two commands with no engine, and clap's
 //! own definition, on which a contract rests, would have a case more for each.
 
 ghost use Rattle.std.specs.Prelude.{◌≡◌, IfOk, None, false, map};
 ghost use Rattle.clap.specs.Words.{app_of, rule_of};
-ghost use Rattle.tas_words.specs.CommandLine.{empty_line, flag_rule, may_number_rule, may_word_rule, number_rule, output_rule, paired_word_rule, rule_of_word, version_text, with_commands, word_rule, HasRules, HasVersion, IsCommandLine};
+ghost use Rattle.tas_words.specs.CommandLine.{empty_line, flag_rule, may_number_rule, may_word_rule, number_flag_rule, number_rule, output_rule, paired_word_rule, rule_of_word, version_text, with_commands, word_rule, HasRules, HasVersion, IsCommandLine};
 ghost use Rattle.tas_words.specs.Guides.{HasUsage};
 
 use crate::subcommands::{
     Subcommand, Word, WordKind, first_subcommands, last_subcommands, later_subcommands,
+    next_subcommands,
 };
 use clap::{Arg, ArgAction, Command, value_parser};
 use std::alloc::{AllocError, Global};
@@ -126,6 +127,26 @@ fn optional_number<'a>(
         .help(help)
 }
 
+/// A number in a range, after a flag, that may be left out.
+fn number_flag<'a>(
+    alloc: Global,
+    name: &'a str,
+    flag: &'a str,
+    help: &'a str,
+    range: (u32, u32),
+) -> Arg<'a>
+    ensures local { result.global ≡ false }
+    ensures rule { rule_of result ≡ number_flag_rule name.now flag.now range.0 range.1 }
+{
+    let (least, most) = range;
+    Arg::new(alloc, name)
+        .long(flag)
+        .action(ArgAction::Set)
+        .value_name(name)
+        .value_parser(value_parser!(u32).range(i64::from(least)..=i64::from(most)))
+        .help(help)
+}
+
 /// A word, as clap takes it.
 fn arg_of<'a>(alloc: Global, word: Word) -> Result<Arg<'a>, AllocError>
     ensures local { IfOk result (λ arg. arg.global ≡ false) }
@@ -142,6 +163,11 @@ fn arg_of<'a>(alloc: Global, word: Word) -> Result<Arg<'a>, AllocError>
         WordKind::OptionalNumber { least, most } => {
             Ok(optional_number(alloc, name, help, least, most))
         }
+        WordKind::NumberFlag {
+            flag: long,
+            least,
+            most,
+        } => Ok(number_flag(alloc, name, long, help, (least, most))),
     }
 }
 
@@ -209,6 +235,7 @@ pub(crate) fn command_line<'a>(alloc: Global) -> Result<Command<'a>, AllocError>
 {
     let empty = empty_line(alloc)?;
     let line = with_commands(alloc, empty, first_subcommands())?;
+    let line = with_commands(alloc, line, next_subcommands())?;
     let line = with_commands(alloc, line, later_subcommands())?;
     let line = with_commands(alloc, line, last_subcommands())?;
     // The version is given last, since clap's `subcommand` says nothing of it.

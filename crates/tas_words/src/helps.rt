@@ -50,6 +50,30 @@ Example:
   echo press 60 30 R...F ..... ..... > first.script
   ./tas edit joystick.bin first.script -o first.movie < first.movie";
 
+pub(crate) const SEARCH_HELP: &str = "\
+Standard input is the movie text, as for 'tas check'. An input is chosen for each of FRAMES frames
+from FROM on, and the best of all sequences of such choices is sought. GOAL says what is best:
+  reach E    the fewest frames after which E isn't 0
+  most E     the greatest value of E after all FRAMES frames
+  least E    the smallest one
+E is a number (85), a byte of RAM (byte:8A; bcd:8A as two decimal digits; pair:8A with the next
+byte), a name of the names file, 'not' and one of these, or two with an operator between them: + - *
+== != < <= > >= and or. Each further operator has parentheses, with spaces around them:
+'reach ( x == 85 ) and ( y < 9 )'.
+CHOICES has a frame in each line, as '..D.F ..... .....'. Without it the choices are the left
+stick's nine directions, and the same with fire. NAMES has a name and an address in each line, as
+'x 85'. With --hold a choice is held for N frames, and FRAMES is a multiple of N.
+Standard output is a script for 'tas edit' that writes the best sequence into the movie: of those
+that are as good the first one, in the order of the choices. Standard error has the verdict, a line
+'best of all N sequences'. If there is no such sequence, it begins with 'none', and if more than
+STATES different states are reached by K choices, with 'stopped: more than STATES states in layer
+K': then there is no script, and --most with a greater number keeps more states, in more memory.
+
+Examples:
+  examples/cart joystick > joystick.bin
+  ./tas search joystick.bin 35 20 'reach byte:80 <= 70' < examples/joystick.movie > best.script
+  ./tas edit joystick.bin best.script -o best.movie < examples/joystick.movie";
+
 pub(crate) const SHOT_HELP: &str = "\
 Standard input is the movie text, as for 'tas check'.
 Standard output is the picture of frame K, 160 by 210 pixels as a binary portable pixmap (P6),

@@ -14,8 +14,9 @@ mod words;
 
 pub use invocation::{Invocation, collect_words, read_invocation};
 pub use task::{
-    DEFAULT_EVERY, MAX_EVERY, MAX_FRAME_NUMBER, MAX_FRAMES, MAX_INSTRUCTIONS, MAX_WORKERS,
-    MovieFiles, Order, Pair, Pairs, Start, Task,
+    DEFAULT_EVERY, DEFAULT_HOLD, DEFAULT_STATES, MAX_EVERY, MAX_FRAME_NUMBER, MAX_FRAMES,
+    MAX_INSTRUCTIONS, MAX_STATES, MAX_WORKERS, MovieFiles, Order, Pair, Pairs, SearchWords, Start,
+    Task,
 };
 pub use waiting::waits_for;
 pub use words::read_words;

@@ -2,20 +2,20 @@
 
 ghost use Rattle.std.specs.List.{list_all};
 ghost use Rattle.std.specs.Prelude.{◌≡◌, map, true};
-ghost use Rattle.tas_words.specs.CommandLine.{empty_line, first_line, last_line, later_line, with_commands};
-ghost use Rattle.tas_words.specs.Guides.{first_guides, guide_of, has_its_words, last_guides, later_guides};
+ghost use Rattle.tas_words.specs.CommandLine.{empty_line, first_line, last_line, later_line, next_line, with_commands};
+ghost use Rattle.tas_words.specs.Guides.{first_guides, guide_of, has_its_words, last_guides, later_guides, next_guides};
 
 use crate::helps::{
     ANSWERS, CHECK_HELP, COMPARE_HELP, CUT_HELP, DESK_HELP, DIFF_HELP, DIGEST_HELP, EDIT_HELP,
     EXPORT_HELP, FILM_HELP, LAG_HELP, LINES, MIGRATE_HELP, NEW_HELP, RAM_HELP, SCRIPT_HELP,
-    SHOT_HELP, TALK_HELP, TRACE_HELP,
+    SEARCH_HELP, SHOT_HELP, TALK_HELP, TRACE_HELP,
 };
-use crate::{MAX_EVERY, MAX_FRAME_NUMBER, MAX_FRAMES, MAX_INSTRUCTIONS, MAX_WORKERS};
+use crate::{MAX_EVERY, MAX_FRAME_NUMBER, MAX_FRAMES, MAX_INSTRUCTIONS, MAX_STATES, MAX_WORKERS};
 
 /// What a word of a command is.
 #[derive(Clone, Copy)]
 pub(crate) enum WordKind {
-    /// The name of a file.
+    /// The name of a file, or another text.
     File,
     /// The name of a file that may be left out.
     OptionalFile,
@@ -37,6 +37,12 @@ pub(crate) enum WordKind {
     },
     /// A number from the least to the most that may be left out.
     OptionalNumber {
+        least: u32,
+        most: u32,
+    },
+    /// The same after a flag.
+    NumberFlag {
+        flag: &'static str,
         least: u32,
         most: u32,
     },
@@ -109,7 +115,7 @@ const LEFT: Word = Word {
     kind: WordKind::Output,
 };
 
-/// The first of the three lists of commands: a proof over one list of all is too large.
+/// The first of the four lists of commands: a proof over one list of all is too large.
 static FIRST_SUBCOMMANDS: [Subcommand; 10] = [
     Subcommand {
         name: "trace",
@@ -264,7 +270,7 @@ static FIRST_SUBCOMMANDS: [Subcommand; 10] = [
 ];
 
 /// Those after them.
-static LATER_SUBCOMMANDS: [Subcommand; 6] = [
+static NEXT_SUBCOMMANDS: [Subcommand; 2] = [
     Subcommand {
         name: "new",
         usage: "tas new [OPTIONS] <CART> <FRAMES>",
@@ -284,6 +290,74 @@ static LATER_SUBCOMMANDS: [Subcommand; 6] = [
             OUTPUT,
         ],
     },
+    Subcommand {
+        name: "search",
+        usage: "tas search [OPTIONS] <CART> <FROM> <FRAMES> <GOAL> < MOVIE",
+        tip: Some(
+            "the movie is read from standard input: tas search game.bin 60 12 'reach byte:80 == 85' < game.movie",
+        ),
+        about: "Searches for the best inputs of some frames and writes the script that makes them",
+        help: SEARCH_HELP,
+        words: &[
+            CARTRIDGE,
+            Word {
+                name: "FROM",
+                help: "The first frame to choose an input for, counted from 0",
+                kind: FRAME,
+            },
+            Word {
+                name: "FRAMES",
+                help: "How many frames to choose inputs for, 0 to 262144",
+                kind: WordKind::Number {
+                    least: 0,
+                    most: MAX_FRAMES,
+                },
+            },
+            Word {
+                name: "GOAL",
+                help: "What is sought, one word: 'reach E', 'most E' or 'least E'",
+                kind: WordKind::File,
+            },
+            Word {
+                name: "CHOICES",
+                help: "The file with the inputs to choose from: the left stick's if not given",
+                kind: WordKind::Flag {
+                    flag: "choices",
+                    other: "GOAL",
+                },
+            },
+            Word {
+                name: "NAMES",
+                help: "The file with names of addresses, for the goal",
+                kind: WordKind::Flag {
+                    flag: "names",
+                    other: "GOAL",
+                },
+            },
+            Word {
+                name: "N",
+                help: "For how many frames a choice is held, 1 to 262144: 1 if not given",
+                kind: WordKind::NumberFlag {
+                    flag: "hold",
+                    least: 1,
+                    most: MAX_FRAMES,
+                },
+            },
+            Word {
+                name: "STATES",
+                help: "States to keep of a layer, 1 to 9999999: 100000 if not given",
+                kind: WordKind::NumberFlag {
+                    flag: "most",
+                    least: 1,
+                    most: MAX_STATES,
+                },
+            },
+        ],
+    },
+];
+
+/// Those after these.
+static LATER_SUBCOMMANDS: [Subcommand; 5] = [
     Subcommand {
         name: "edit",
         usage: "tas edit [OPTIONS] <CART> <SCRIPT> < MOVIE",
@@ -490,8 +564,17 @@ pub(crate) fn first_subcommands() -> &'static [Subcommand]
 }
 
 /// Those after them, which make the next part.
+pub(crate) fn next_subcommands() -> &'static [Subcommand]
+    ensures line { with_commands first_line result.now ≡ next_line }
+    ensures guides { map guide_of result.now ≡ next_guides }
+    ensures usages { list_all has_its_words result.now ≡ true }
+{
+    &NEXT_SUBCOMMANDS
+}
+
+/// Those after these, which make the part after it.
 pub(crate) fn later_subcommands() -> &'static [Subcommand]
-    ensures line { with_commands first_line result.now ≡ later_line }
+    ensures line { with_commands next_line result.now ≡ later_line }
     ensures guides { map guide_of result.now ≡ later_guides }
     ensures usages { list_all has_its_words result.now ≡ true }
 {

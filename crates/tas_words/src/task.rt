@@ -24,6 +24,15 @@ pub const DEFAULT_EVERY: u32 = 600;
 /// The most workers of one export.
 pub const MAX_WORKERS: u32 = tas_film::MAX_WORKERS as u32;
 
+/// The most states of a layer that a search can be asked to keep.
+pub const MAX_STATES: u32 = MAX_FRAME_NUMBER;
+
+/// The default of STATES: how many states of a layer a search keeps at most.
+pub const DEFAULT_STATES: u32 = 100_000;
+
+/// The default of N of a search: for how many frames a choice is held.
+pub const DEFAULT_HOLD: u32 = 1;
+
 /// The names of a movie's two files.
 #[derive(Clone, Copy)]
 pub struct MovieFiles<'a> {
@@ -31,6 +40,27 @@ pub struct MovieFiles<'a> {
     pub cart: &'a str,
     /// The name of the file with the movie's text.
     pub movie: &'a str,
+}
+
+/// The words of a search.
+#[derive(Clone, Copy)]
+pub struct SearchWords<'a> {
+    /// The name of the cartridge's file.
+    pub cart: &'a str,
+    /// The first frame that a choice is made for, counted from 0, up to 9,999,999.
+    pub from: usize,
+    /// How many frames a sequence has, or at most has, 0 to [`MAX_FRAMES`].
+    pub frames: usize,
+    /// The text of the goal.
+    pub goal: &'a str,
+    /// The name of the file with the choices; those of the left stick if not given.
+    pub choices: Option<&'a str>,
+    /// The name of the file with the names of addresses; there are none if not given.
+    pub names: Option<&'a str>,
+    /// For how many frames a choice is held, 1 to [`MAX_FRAMES`].
+    pub hold: usize,
+    /// How many states of a layer are kept at most, 1 to [`MAX_STATES`].
+    pub states: usize,
 }
 
 /// What a conversation starts from.
@@ -102,6 +132,8 @@ pub enum Task<'a> {
         /// How many frames it has, 0 to [`MAX_FRAMES`]; more count as so many.
         frames: usize,
     },
+    /// Search for the best inputs of some frames of the movie on standard input, and write the script that makes them.
+    Search(SearchWords<'a>),
     /// Draw a frame of the movie on standard input.
     Shot {
         /// The name of the cartridge's file.

@@ -9,6 +9,7 @@ ghost use Rattle.tas_words.specs.Guides.{guide_named, guide_of, has_stray, is_fl
 
 use crate::subcommands::{
     Subcommand, Word, WordKind, first_subcommands, last_subcommands, later_subcommands,
+    next_subcommands,
 };
 use std::alloc::Allocator;
 
@@ -52,7 +53,7 @@ fn number_kind(kind: WordKind) -> Option<bool>
 {
     match kind {
         WordKind::File | WordKind::OptionalFile | WordKind::PairedFile { .. } => Some(false),
-        WordKind::Flag { .. } | WordKind::Output => None,
+        WordKind::Flag { .. } | WordKind::Output | WordKind::NumberFlag { .. } => None,
         WordKind::Number { .. } | WordKind::OptionalNumber { .. } => Some(true),
     }
 }
@@ -92,6 +93,9 @@ pub(crate) fn command_named(name: &str) -> Option<Subcommand>
     ensures { option_map guide_of result ≡ guide_named name.now }
 {
     if let Some(command) = named(first_subcommands(), name) {
+        return Some(command);
+    }
+    if let Some(command) = named(next_subcommands(), name) {
         return Some(command);
     }
     if let Some(command) = named(later_subcommands(), name) {

@@ -5,13 +5,15 @@
 
 ghost use Rattle.std.specs.Prelude.{◌≡◌, IfOk, IfSome, codes, map, option_map, string_bytes};
 ghost use Rattle.clap.specs.Words.{first_of, found_of, rows_of, subcommand_rows_of};
-ghost use Rattle.tas_words.specs.Task.{ArePairs, HasWords, IsEvery, IsFrameWord, IsNumberWord, IsOptionalFrameWord, IsOptionalNumberWord, IsOptionalPair};
+ghost use Rattle.tas_movie.specs.Content.{most_inputs};
+ghost use Rattle.tas_words.specs.Task.{ArePairs, HasWords, IsEvery, IsFrameWord, IsNumberOr, IsNumberWord, IsOptionalFrameWord, IsOptionalNumberWord, IsOptionalPair};
 ghost use Rattle.tas_words.specs.CommandLine.{HasWordsOf, IsAsked, IsCommandLine};
 
 use crate::command_line::command_line;
 use crate::{
-    DEFAULT_EVERY, MAX_EVERY, MAX_FRAME_NUMBER, MAX_FRAMES, MAX_INSTRUCTIONS, MAX_WORKERS,
-    MovieFiles, Order, Pair, Pairs, Start, Task,
+    DEFAULT_EVERY, DEFAULT_HOLD, DEFAULT_STATES, MAX_EVERY, MAX_FRAME_NUMBER, MAX_FRAMES,
+    MAX_INSTRUCTIONS, MAX_STATES, MAX_WORKERS, MovieFiles, Order, Pair, Pairs, SearchWords, Start,
+    Task,
 };
 use clap::error::ErrorKind;
 use clap::{ArgMatches, Command, Error};
@@ -71,14 +73,45 @@ fn optional_frame_of(matches: &ArgMatches<'_>, name: &str) -> Option<Option<usiz
     }
 }
 
+/// The number of this name, from 1 to the most; the usual one where there is none.
+fn number_or(matches: &ArgMatches<'_>, name: &str, most: u32, usual: u32) -> Option<usize>
+    ensures { IfSome result (IsNumberOr (rows_of (found_of matches.now)) name.now most usual) }
+{
+    match optional_number_of(matches, name, 1, most)? {
+        Some(number) => Some(number as usize),
+        None => Some(usual as usize),
+    }
+}
+
 /// How many frames a stretch of a digest has.
 fn every_of(matches: &ArgMatches<'_>) -> Option<usize>
     ensures { IfSome result (IsEvery (rows_of (found_of matches.now))) }
 {
-    match optional_number_of(matches, "EVERY", 1, MAX_EVERY)? {
-        Some(every) => Some(every as usize),
-        None => Some(DEFAULT_EVERY as usize),
-    }
+    number_or(matches, "EVERY", MAX_EVERY, DEFAULT_EVERY)
+}
+
+/// How many frames a new movie has, or a search goes through at most.
+fn frames_of(matches: &ArgMatches<'_>) -> Option<usize>
+    ensures { IfSome result
+        (IsNumberWord (rows_of (found_of matches.now)) (codes "FRAMES") 0 most_inputs) }
+{
+    Some(number_of(matches, "FRAMES", 0, MAX_FRAMES)? as usize)
+}
+
+/// What the words of `tas search` ask for.
+fn search_task<'a>(matches: &ArgMatches<'a>) -> Option<Task<'a>>
+    ensures { IfSome result (HasWords (codes "search") (rows_of (found_of matches.now))) }
+{
+    Some(Task::Search(SearchWords {
+        cart: word_of(matches, "CART")?,
+        from: frame_of(matches, "FROM")?,
+        frames: frames_of(matches)?,
+        goal: word_of(matches, "GOAL")?,
+        choices: word_of(matches, "CHOICES"),
+        names: word_of(matches, "NAMES"),
+        hold: number_or(matches, "N", MAX_FRAMES, DEFAULT_HOLD)?,
+        states: number_or(matches, "STATES", MAX_STATES, DEFAULT_STATES)?,
+    }))
 }
 
 /// What the words of `tas script` ask for; `None` where they name one file.
@@ -159,8 +192,9 @@ fn text_task<'a>(name: &str, words: &ArgMatches<'a>) -> Option<Task<'a>>
         }),
         "new" => Some(Task::New {
             cart: word_of(words, "CART")?,
-            frames: number_of(words, "FRAMES", 0, MAX_FRAMES)? as usize,
+            frames: frames_of(words)?,
         }),
+        "search" => search_task(words),
         "edit" => Some(Task::Edit {
             cart: word_of(words, "CART")?,
             script: word_of(words, "SCRIPT")?,
@@ -269,16 +303,17 @@ pub fn read_words<'a, A: Allocator>(
 ) -> Result<Order<'a>, Error>
     // The task is that of the command that the words name, its numbers in their ranges. `named_command` is clap's own
     // definition of the subcommand that words reach, over the commands' names and the flags for help and version.
-    // Refused: shot_is_read_as_check, shot_is_answered_as_check*, new_is_read_as_check*, ram_is_read_as_export*,
-    // compare_is_read_as_diff*, cut_is_read_as_ram*, trace_of_one_instruction_too_many_is_read,
+    // Refused: shot_is_read_as_check, shot_is_answered_as_check*, new_is_read_as_check*, search_is_read_as_check*,
+    // ram_is_read_as_export*, compare_is_read_as_diff*, cut_is_read_as_ram*, trace_of_one_instruction_too_many_is_read,
     // export_by_no_worker_is_read.
     // The task's files and numbers are the words of that command, by their names, as clap's own definition finds them
     // after it; a number is read in decimal digits, before which there may be a plus. What may be left out is missing
     // in the task exactly where it is in the words, as a pair of a desk's files, of which both names are there or
-    // none; EVERY of `digest` is 600 then.
+    // none; then EVERY of `digest` is 600, and of `search` N is 1 and STATES 100,000.
     // Refused: script_is_the_cartridges_file*, half_of_the_frame_is_asked*, film_starts_at_its_end*,
     // number_that_is_said_is_left_out*, every_is_600_whatever_is_said,
-    // digest_is_of_single_frames_where_nothing_is_said*, second_movie_is_left_out*, files_of_a_script_are_swapped,
+    // digest_is_of_single_frames_where_nothing_is_said*, second_movie_is_left_out*, names_file_is_the_choices_file,
+    // states_are_the_frames_of_a_choice, search_goes_one_frame_far*, files_of_a_script_are_swapped,
     // conversation_over_a_movie_begins_without_it, movie_of_a_desk_is_its_cartridge, names_of_a_pair_are_swapped,
     // answers_without_lines_are_left_out, first_names_of_two_pairs_are_swapped, seventh_pair_is_read_twice.
     // A command's output replaces the file FILE exactly where the words name one after `-o` or `--output`.

@@ -15,6 +15,9 @@ returns-in-Number-clause-rule c = rw c.in-Number.is c.number.ensures.rule
 pub returns-in-OptionalNumber-clause-rule : goal.returns-in-OptionalNumber-clause-rule
 returns-in-OptionalNumber-clause-rule c = rw c.in-OptionalNumber.is c.optional_number.ensures.rule
 
+pub returns-in-NumberFlag-clause-rule : goal.returns-in-NumberFlag-clause-rule
+returns-in-NumberFlag-clause-rule c = rw c.in-NumberFlag.is c.number_flag.ensures.rule
+
 pub returns-in-PairedFile-clause-rule : goal.returns-in-PairedFile-clause-rule
 returns-in-PairedFile-clause-rule c = rw c.in-PairedFile.is c.paired_file.ensures.rule
 

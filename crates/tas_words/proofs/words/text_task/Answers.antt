@@ -8,6 +8,9 @@ returns-in_err-frame_of-in-cut-2 c = grind (arith, common_steps)
 pub returns-in_err-word_of-in-cut : goal.returns-in_err-word_of-in-cut
 returns-in_err-word_of-in-cut c = grind (arith, common_steps)
 
+pub returns-in-search : goal.returns-in-search
+returns-in-search c = grind (arith, common_steps)
+
 pub returns-in-script : goal.returns-in-script
 returns-in-script c = grind (arith, common_steps)
 
