@@ -1,6 +1,7 @@
 pub mod Streams
 pub mod FileWords
 pub mod Files
+pub mod Searching
 pub mod Program
 pub mod Waiting
 pub mod Saving

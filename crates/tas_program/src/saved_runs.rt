@@ -2,11 +2,11 @@
 
 ghost use Rattle.std.specs.Prelude.{◌≡◌};
 ghost use Rattle.tas_program.specs.Files.{files_by};
-ghost use Rattle.tas_program.specs.Program.{IsSaveRun, SavesTask, held_fault, saved_end};
+ghost use Rattle.tas_program.specs.Program.{IsSaveRun, SavesTask, held, held_error, held_fault, saved_end};
 
 use crate::directory::Names;
-use crate::running::run_engine;
 use crate::saved_talks::talk_of;
+use crate::searching::do_task;
 use crate::{
     Directory, Folder, Permit, SaveFault, Streams, TaskFault, check_output, save, save_talk,
     tell_waiting,
@@ -15,6 +15,7 @@ use std::alloc::{Allocator, Global};
 use std::io::{Read, Write};
 use std::sync::Wait;
 use std::thread::Threads;
+use tas_search::SearchError;
 use tas_tool::{RunFault, ToolFault};
 use tas_words::Task;
 
@@ -24,6 +25,27 @@ fn held_fault(fault: ToolFault) -> ToolFault
 {
     match fault {
         ToolFault::Run(RunFault::Write { written: _ }) => ToolFault::Run(RunFault::Memory),
+        fault => fault,
+    }
+}
+
+/// The same of a search.
+fn held_error(error: SearchError) -> SearchError
+    ensures { result ≡ held_error error }
+{
+    match error {
+        SearchError::Run(RunFault::Write { written: _ }) => SearchError::Memory,
+        error => error,
+    }
+}
+
+/// The same of any task.
+fn held(fault: TaskFault) -> TaskFault
+    ensures { result ≡ held fault }
+{
+    match fault {
+        TaskFault::Tool(fault) => TaskFault::Tool(held_fault(fault)),
+        TaskFault::Search(error) => TaskFault::Search(held_error(error)),
         fault => fault,
     }
 }
@@ -71,7 +93,7 @@ pub fn save_run<
     let mut text = Vec::new(alloc);
     // A line that can't be written changes nothing.
     let _ = tell_waiting(alloc, folder.has_terminal(), task, &mut streams.errors);
-    let end = run_engine(
+    let end = do_task(
         rt,
         global,
         alloc,
@@ -80,10 +102,11 @@ pub fn save_run<
         folder,
         &mut streams.input,
         &mut text,
+        &mut streams.errors,
     );
     match end {
         Ok(()) => saved_end(save(alloc, directory, file, text.as_slice())),
-        Err(fault) => Err(TaskFault::Tool(held_fault(fault))),
+        Err(fault) => Err(held(fault)),
     }
 }
 

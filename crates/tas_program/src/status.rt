@@ -4,7 +4,8 @@ ghost use Rattle.std.specs.Prelude.{◌≡◌};
 ghost use Rattle.tas_program.specs.Program.{status_code};
 
 use crate::{SaveFault, WordFault};
-use tas_tool::ToolFault;
+use tas_search::SearchError;
+use tas_tool::{RunFault, ToolFault};
 use thiserror::Error;
 
 /// Why a task wasn't done. Its text is the line, without the newline, that the program writes to standard error.
@@ -16,6 +17,12 @@ pub enum TaskFault {
     /// Its engine ended with a fault: the status is 1.
     #[error("{0}")]
     Tool(ToolFault),
+    /// It is a search, and has no answer: the status is 1.
+    #[error("{0}")]
+    Search(SearchError),
+    /// It is a search, whose script is written, but of whose verdict only the first bytes are: the status is 1.
+    #[error("fault: verdict: {0}")]
+    Verdict(RunFault),
     /// Its engine is done, but its output didn't replace the file: the status is 1.
     #[error("{0}")]
     Save(SaveFault),

@@ -1,10 +1,11 @@
-use Rattle.std.proofs.Common.{min, refl}
+use Rattle.std.proofs.Common.{◌≡◌, Some, None, min, refl, sym, ap, ◌∙◌}
 use Rattle.tas_movie.specs.Content.{most_inputs}
 use Rattle.tas_engines.specs.Commands.{OfOne}
 use Rattle.tas_engines.specs.Movies.{IsMovieRun}
 use Rattle.tas_engines.specs.Starting.{IsNewAnswer}
 use Rattle.tas_tool.specs.Films.{IsFilmRun}
 use Rattle.tas_tool.specs.Pixmaps.{IsExportAnswer}
+use Rattle.tas_program.specs.Searching.{search_of}
 use Rattle.tas_program.proofs.ProgramLemmas.{over_alone, over_one}
 use Rattle.tas_program.proofs.running.run_engine.Goals as goal
 
@@ -12,6 +13,11 @@ pub returns-in_ok-cart-in-New : goal.returns-in_ok-cart-in-New
 returns-in_ok-cart-in-New g c =
     rw c.in-New.is
     (over_alone (OfOne (IsNewAnswer (min c.in-New.frames most_inputs))) (g.F.Folder.bytes_of c.args.folder.now c.in-New.cart.now) (g.F.File.Read.remaining c.in_ok-cart-in-New.cart) (g.F.File.Read.remaining c.run_over-in-New.new.input) (record { input = g.R.Read.remaining c.args.input.now; output = g.W.Write.contents c.args.output.now }) (record { input = g.R.Read.remaining c.args.input.now; output = g.W.Write.contents c.run_over-in-New.new.output }) c.run_over-in-New.result c.in_ok-cart-in-New.ensures.file refl c.run_over-in-New.ensures)
+
+pub unreachable-requires : goal.unreachable-requires
+unreachable-requires g c =
+    let search : Some c.in-Search.field-0 ≡ None = sym (ap search_of c.in-Search.is) ∙ c.requires in
+    cc
 
 pub returns-in_ok-open-in-Film : goal.returns-in_ok-open-in-Film
 returns-in_ok-open-in-Film g c =
