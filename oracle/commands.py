@@ -16,12 +16,13 @@ from resting import BLACK, MOST_PLAYED, Open, check_reach, rest_of
 
 MOST_BYTES = 16777216
 MOST_DRAWN = 200
-# The words after each command: a cartridge, a file, a movie's file, a number; those after the bar may be missing. And the most that each number may be.
+# The words after each command: a cartridge, a file, a movie's file, a goal, a number; those after the bar may be missing. And the most that each number may be.
 FORMS = {
     "check": "c", "migrate": "c", "edit": "cf", "cut": "cnn", "diff": "cm", "script": "", "talk": "|cm", "shot": "cn", "film": "c|nn", "export": "cnnw", "ram": "cnn",
-    "digest": "c|e", "compare": "cm", "lag": "c", "trace": "t", "new": "cl", "desk": "cmff|ffffffffffffff"}
-NUMBERS = {"n": (0, 9999999), "w": (1, 16), "e": (1, MOST), "l": (0, MOST), "t": (0, 1000000)}
-FLAGS = {"edit": ("--with",), "script": ("--cart", "--movie")}
+    "digest": "c|e", "compare": "cm", "lag": "c", "trace": "t", "new": "cl", "search": "cnlg", "desk": "cmff|ffffffffffffff"}
+NUMBERS = {"n": (0, 9999999), "w": (1, 16), "e": (1, MOST), "l": (0, MOST), "s": (1, 9999999), "t": (0, 1000000)}
+FLAGS = {"edit": ("--with",), "search": ("--choices", "--names", "--hold", "--most"), "script": ("--cart", "--movie")}
+FLAG_NUMBERS = {"--hold": "e", "--most": "s"}
 NUMBER = re.compile(r"\+?0*([0-9]{1,8})")
 
 Wanted = namedtuple("Wanted", "output errors status")  # nothing stands for a text for people
@@ -74,6 +75,7 @@ def given(command, words):
         raise Wrong
     if command == "script" and len(flagged) == 1:
         raise Open("`tas script` with one of its flags alone")
+    flagged = {flag: number_of(word, FLAG_NUMBERS[flag]) if flag in FLAG_NUMBERS else word for flag, word in flagged.items()}
     return [(kind, number_of(word, kind) if kind in NUMBERS else word) for kind, word in zip(form, plain)], flagged
 
 
@@ -172,6 +174,12 @@ class Run:
     def new(self, cart, frames):
         cart, = self.inputs.read([cart], False)
         return hands.movie_text(sized(cart), [hands.REST] * frames)
+
+    def search(self, cart, _first, _count, _goal, choices=None, names=None, **_numbers):
+        """Where an input, the cartridge or the movie is at fault."""
+        cart, *_others, text = self.inputs.read([name for name in (cart, choices, names) if name is not None])
+        readings.read_movie(text, sized(cart))
+        raise Open("what a search finds")
 
     def edit(self, cart, script, **flagged):
         others = [flagged["with"]] if flagged else []
