@@ -1,3 +1,4 @@
+use Rattle.std.proofs.lemmas.Grind.{common_steps}
 use Rattle.std.proofs.Common.{◌+◌, arith}
 use Rattle.tas_search.proofs.ArrivalLemmas.{moved_frontier}
 use Rattle.tas_search.proofs.LimitLemmas.{frontier_fits}
@@ -25,3 +26,6 @@ returns-clause-fits g c = λ yes.
     (moved_frontier c.args.space.now frontier.depth frontier.place c.len-end.result frontier.parents.items c.keep_steps.new.parents.items frontier.layer.keys c.as_slice.result.now c.in-Some.next.keys c.requires.frontier
     c.as_slice.ensures.keys (omega (arith, c.len-end.ensures, frontier.parents.ok.0)) (rw c.as_slice-2.ensures.keys at c.in_ok-keep_steps.ensures) grown.0)
     grown.1
+
+pub returns-clause-over : goal.returns-clause-over
+returns-clause-over g c = grind (arith, common_steps)

@@ -1,3 +1,4 @@
+use Rattle.std.proofs.lemmas.Grind.{common_steps}
 use Rattle.std.proofs.Common.{◌≡◌, false, length, ap, sym, ◌∙◌, arith}
 use Rattle.std.specs.Prelude.{is_some}
 use Rattle.indexmap.specs.IndexSet.{insert_all}
@@ -21,3 +22,9 @@ loop-choice-preserved g c =
     choice_added c.args.space.now c.args.state.now c.after_choice.result c.args.place c.loop-choice.choice (length c.args.space.now.choices) c.loop-choice.next.keys c.insert-in-loop-choice.new.self.keys
     (insert_all are_same_arrivals c.args.next.now.keys (arrivals_from c.args.space.now c.args.state.now c.args.place 0 (length c.args.space.now.choices)))
     (omega (arith, c.loop-choice-test.true, c.choice_count-count.ensures)) c.after_choice.ensures (rw c.arrival-in-loop-choice.ensures at c.in_ok-insert-2.ensures.keys) c.loop-choice.invariant
+
+pub loop-choice-init : goal.loop-choice-init
+loop-choice-init g c = grind (arith, common_steps)
+
+pub returns : goal.returns
+returns g c = grind (arith, common_steps)

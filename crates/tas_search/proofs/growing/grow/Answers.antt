@@ -1,3 +1,4 @@
+use Rattle.std.proofs.lemmas.Grind.{common_steps}
 use Rattle.std.proofs.Common.{◌≡◌, ◌+◌, [], length, take, ap, arith}
 use Rattle.tas_search.specs.Inside.Arrivals.{grown_arrivals}
 use Rattle.tas_search.proofs.CodeLemmas.{grown_more}
@@ -17,3 +18,6 @@ loop-j-preserved g c = record {
       (omega (arith, c.loop-j-test.true)) c.index-layer-j.is c.loop-j.invariant.grown c.in_ok-add_next.ensures;
   fits = omega (arith, c.len.ensures.len, c.if-len-most.false);
 }
+
+pub returns : goal.returns
+returns g c = grind (arith, common_steps)

@@ -1,3 +1,4 @@
+use Rattle.std.proofs.lemmas.Grind.{common_steps}
 use Rattle.std.proofs.Common.{◌≡◌, ℕ, ◌+◌, ◌*◌, ◌≤◌, length, refl, ap, subst, ◌∙◌, arith}
 use Rattle.tas_movie.specs.Content.{most_inputs}
 use Rattle.tas_search.specs.Space.{SpaceContent}
@@ -35,3 +36,9 @@ returns-clause-found g c =
       writes_found movie choices range found c.in_ok-changes.changes.items c.changes_write_the_sequence.ensures (omega (arith, c.if-len-range.false, c.len.ensures.len))
           (found_fits (space_of movie choices range) kind formula range.count range.states range.from found le answer) are,
     )
+
+pub returns-in_err-changes-clause-fault : goal.returns-in_err-changes-clause-fault
+returns-in_err-changes-clause-fault g c = grind (arith, common_steps)
+
+pub returns-in_err-found-clause-fault : goal.returns-in_err-found-clause-fault
+returns-in_err-found-clause-fault g c = grind (arith, common_steps)

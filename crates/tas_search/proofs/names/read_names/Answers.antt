@@ -1,3 +1,4 @@
+use Rattle.std.proofs.lemmas.Grind.{common_steps}
 use Rattle.std.proofs.Common.{◌≡◌, ◌+◌, length, arith}
 use Rattle.std.proofs.lemmas.Result.{err_from_is_err_and}
 use Rattle.tas_search.specs.Words.{names_of}
@@ -25,3 +26,12 @@ loop-rest-preserved g c =
 
 pub returns-clause-mean : goal.returns-clause-mean
 returns-clause-mean g c = names_mean (names_of c.loop-rest.names.items) c.loop-rest.invariant.new
+
+pub loop-rest-smaller : goal.loop-rest-smaller
+loop-rest-smaller g c = grind (arith, common_steps)
+
+pub returns-clause-read : goal.returns-clause-read
+returns-clause-read g c = grind (arith, common_steps)
+
+pub returns-in_default-clause-fault : goal.returns-in_default-clause-fault
+returns-in_default-clause-fault g c = grind (arith, common_steps)

@@ -1,3 +1,4 @@
+use Rattle.std.proofs.lemmas.Grind.{common_steps}
 use Rattle.std.proofs.Common.{◌≡◌, ◌-◌, ◌∷◌, ap, ◌∙◌, arith}
 use Rattle.std.proofs.lemmas.Result.{err_from_is_err_and}
 use Rattle.tas_search.specs.declared.word.Word.{Word}
@@ -75,3 +76,6 @@ returns-in-Other-clause-fault t c =
     let rest = c.in-Some.rest.now in
     let is : c.args.words.now ≡ word.Other ∷ rest = c.in-Some.ensures.cases.0 ∙ ap (λ (w : Word). w ∷ rest) c.in-Other.is in
     other_fault c.args.levels c.args.words.now rest word.Other is (λ h. h)
+
+pub returns-in_ok-join-in-Open-clause-within : goal.returns-in_ok-join-in-Open-clause-within
+returns-in_ok-join-in-Open-clause-within t c = grind (arith, common_steps)

@@ -1,3 +1,4 @@
+use Rattle.std.proofs.lemmas.Grind.{common_steps}
 use Rattle.std.proofs.Common.{◌<◌, length, sym, arith}
 use Rattle.std.proofs.lemmas.Bool.{eqb-false}
 use Rattle.std.proofs.lemmas.Result.{err_from_is_err_and}
@@ -25,3 +26,6 @@ returns-then-not-is_empty-clause-fault c =
     let lt : 0 < length c.in_ok-b.last.now = omega (arith, eqb-false (length c.in_ok-b.last.now) 0 (sym c.if-not-is_empty.ensures)) in
     whole_end_fault c.args.words.now c.in_ok-a.rest.now c.in-Some.right.now c.in_ok-b.last.now (tree_of c.in_ok-a.a) (tree_of c.in_ok-b.b) c.in-Some.operator c.in_ok-a.ensures.read c.in_ok-a.ensures.within c.in-Some.ensures.some
     c.in_ok-b.ensures.read c.in_ok-b.ensures.within lt
+
+pub returns-clause-read : goal.returns-clause-read
+returns-clause-read c = grind (arith, common_steps)

@@ -1,4 +1,5 @@
-use Rattle.std.proofs.Common.{[], ◌∷◌, ◌++◌, ap, ◌∙◌}
+use Rattle.std.proofs.lemmas.Grind.{common_steps}
+use Rattle.std.proofs.Common.{[], ◌∷◌, ◌++◌, ap, ◌∙◌, arith}
 use Rattle.tas_search.specs.declared.word.Word.{Word}
 use Rattle.tas_search.specs.Words.{names_of}
 use Rattle.tas_search.proofs.TextLemmas.{word_read, last_word}
@@ -13,3 +14,6 @@ pub returns : goal.returns
 returns g c =
     last_word (names_of c.args.names.now) c.args.text.now c.loop-first.rest.now c.loop-first.words.items c.push-2.new.self.items c.loop-first.invariant c.in_default.ensures.none
     (c.in_ok-push-2.ensures.items ∙ ap (λ (w : Word). c.loop-first.words.items ++ w ∷ []) c.word_of-2.ensures)
+
+pub loop-first-smaller : goal.loop-first-smaller
+loop-first-smaller g c = grind (arith, common_steps)

@@ -1,3 +1,4 @@
+use Rattle.std.proofs.lemmas.Grind.{common_steps}
 use Rattle.std.proofs.Common.{◌≡◌, ◌+◌, ℕ, List, Some, None, length, get_or, ap, sym, subst, ◌∙◌, arith}
 use Rattle.std.specs.List.{position}
 use Rattle.std.proofs.lemmas.List.Quantifiers.{position-Some}
@@ -70,3 +71,12 @@ returns g c =
       subst (λ (n : ℕ). NeedsAtLeast c.args.space.now (holds_of (g.M.Measure.value c.args.goal.now)) (n + 1)) all c.loop-depth.invariant.least,
       subst (λ (n : ℕ). FitsBelow c.args.space.now c.args.states (n + 1)) all c.loop-depth.invariant.fits,
     )
+
+pub loop-depth-init : goal.loop-depth-init
+loop-depth-init g c = grind (arith, common_steps)
+
+pub returns-then-holds : goal.returns-then-holds
+returns-then-holds g c = grind (arith, common_steps)
+
+pub returns-then-not-branch : goal.returns-then-not-branch
+returns-then-not-branch g c = grind (arith, common_steps)

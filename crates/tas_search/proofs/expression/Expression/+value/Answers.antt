@@ -1,4 +1,5 @@
-use Rattle.std.proofs.Common.{◌≡◌}
+use Rattle.std.proofs.lemmas.Grind.{common_steps}
+use Rattle.std.proofs.Common.{◌≡◌, arith}
 use Rattle.std.proofs.lemmas.Int.{to_z-of_z}
 use mir.Syntax.{w64}
 use mir.Val.{to_z, of_z}
@@ -16,3 +17,15 @@ returns-in-Both-clause-below t c =
     let a_below = rw c.deref-in-Both-2.ensures at c.value-in-Both.ensures.below in
     let b_below = rw c.deref-in-Both-3.ensures at c.value-in-Both-2.ensures.below in
     rw (is, c.apply.ensures, a_is, b_is, c.in-Both.is) (applied_below c.in-Both.operator a b (weight c.in-Both.a.value) (weight c.in-Both.b.value) a_below b_below)
+
+pub apply-requires : goal.apply-requires
+apply-requires t c = grind (arith, common_steps)
+
+pub returns-in-Both-clause-value : goal.returns-in-Both-clause-value
+returns-in-Both-clause-value t c = grind (arith, common_steps)
+
+pub returns-in-Pair-clause-below : goal.returns-in-Pair-clause-below
+returns-in-Pair-clause-below t c = grind (arith, common_steps)
+
+pub returns-in-Pair-clause-value : goal.returns-in-Pair-clause-value
+returns-in-Pair-clause-value t c = grind (arith, common_steps)
