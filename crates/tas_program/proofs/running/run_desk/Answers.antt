@@ -1,4 +1,5 @@
-use Rattle.std.proofs.Common.{◌≤◌, length, refl, sym, ap, subst, ◌∙◌}
+use Rattle.std.proofs.lemmas.Grind.{common_steps}
+use Rattle.std.proofs.Common.{◌≤◌, length, refl, sym, ap, subst, ◌∙◌, arith}
 use Rattle.std.proofs.lemmas.List.{length-map}
 use Rattle.tas_desk.specs.Seats.{most_seats}
 use Rattle.tas_program.proofs.PairLemmas.{ends_are, no_doors, over_ends}
@@ -16,3 +17,6 @@ returns g c input =
     over_ends _ c.in-Ok.doors.items _ _ _ _ _ _ _ _ _ _ _ c.in_ok-cart.ensures.file c.in_ok-movie.ensures.file refl
     (ends_are g.F.Folder.bytes_of g.F.Folder.held_by (g.F.Folder.shown c.args.folder.now) (λ door. door.folder.now) (λ door. door.pair) c.args.folder.now c.in-Ok.doors.items c.args.pairs c.in-Ok.ensures.folder c.in-Ok.ensures.pairs)
     c.desk_run.ensures
+
+pub desk_run-requires-clause-some : goal.desk_run-requires-clause-some
+desk_run-requires-clause-some g c = grind (arith, common_steps)
