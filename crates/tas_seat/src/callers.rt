@@ -74,7 +74,7 @@ fn hold<N: Name, C: CloseOnDrop, A: Allocator + Copy, T: Wait, D: Door + Drop>(
 /// Holds all conversations, each on a thread of its own. One whose thread can't be started is held by this thread, once those after it
 /// have ended.
 pub fn converse_all<
-    N: Name + Send + Sync,
+    N: Name + Send,
     A: Allocator + Copy + Send + Sync,
     T: Wait + Threads + Sync,
     D: Door + Drop + Send,

@@ -13,9 +13,9 @@ use std::io::{Read, Write};
 /// A connection to the program that a seat talks to. It is opened once the seat's conversation begins, and closed when it has ended.
 pub trait Door {
     /// What the seat reads from.
-    type Input: Read + Drop + Send + Sync;
+    type Input: Read + Drop + Send;
     /// What it writes to.
-    type Output: Write + Drop + Send + Sync;
+    type Output: Write + Drop + Send;
 
     // What is known of such a door: the bytes of both ends before it is opened and once it is closed, and that it couldn't be opened.
     ghost facts: { DoorFacts Self } = { unknown_facts };

@@ -9,16 +9,13 @@ pub for_each_on_threads-requires-after_bounds : goal.for_each_on_threads-require
 for_each_on_threads-requires-after_bounds g c κs within i caller lt is =
     let b = c.type_bounds in
     let sn = b.send-N in let sa = b.send-A in let sd = b.send-D in let si = b.send-D-Input in let so = b.send-D-Output in
-    let yn = b.sync-N in let ya = b.sync-A in let yt = b.sync-T in let yi = b.sync-D-Input in let yo = b.sync-D-Output in (
+    let ya = b.sync-A in let yt = b.sync-T in (
       search sendable depth 20,
       sa,
       search sendable depth 20,
       search sendable depth 20,
       search sendable depth 20,
-      search sendable depth 20,
       ya,
-      search sendable depth 20,
-      search sendable depth 20,
       search sendable depth 20,
       b.frees-A-Allocator,
     )
