@@ -36,3 +36,6 @@ returns g c =
 
 pub returns-then-from-to : goal.returns-then-from-to
 returns-then-from-to g c = grind (arith, common_steps)
+
+pub invariant_of-self : goal.invariant_of-self
+invariant_of-self g c = grind (arith, common_steps)

@@ -1,4 +1,5 @@
-use Rattle.std.proofs.Common.{ℕ, List, length, refl, subst, ap, ◌∙◌}
+use Rattle.std.proofs.lemmas.Grind.{common_steps}
+use Rattle.std.proofs.Common.{ℕ, List, length, refl, subst, ap, ◌∙◌, arith}
 use Rattle.vcs_inputs.specs.declared.input.Input.{Input}
 use Rattle.tas_movie.specs.Content.{MovieContent}
 use Rattle.tas_movie.specs.Front.{IsCommonFront}
@@ -31,3 +32,6 @@ returns g c =
     (gains before new.states (λ (f : ℕ). where_true (is_on_grid (stride (length old.movie.inputs)) c.in-Ok-merge.merged.front f) (state_at f c.run-batch.result.states)) c.in-Ok-merge.merged.kept c.self.invariant.lawful lawful e.states e.kept)
     (filled old.movie c.args.frame c.in-Ok-merge.merged.front old.states new.states c.run-batch.result.states c.in-Ok.job.cart c.in-Ok.job.inputs c.in-Ok.job.stride c.in-Ok.job.start c.self.invariant.lawful c.in-Ok.ensures.cart c.in-Ok.ensures.inputs
     c.in-Ok.ensures.stride c.in-Ok.ensures.start (subst (λ (l : List Input). IsCommonFront l old.movie.inputs c.in-Ok-merge.merged.front) c.run-batch.ensures.inputs e.front) c.run-batch.ensures.states e.states)
+
+pub invariant_of-self : goal.invariant_of-self
+invariant_of-self g c = grind (arith, common_steps)
