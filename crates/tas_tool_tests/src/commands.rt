@@ -1,6 +1,7 @@
 //! The commands, each called in one place: what is proved of them is long, and would be looked up again wherever a test called one itself.
 
 use crate::checks::check_same;
+use crate::movies::Files;
 use std::alloc::Global;
 use std::io::{Read, Write};
 use std::process::Abort;
@@ -57,9 +58,6 @@ pub fn write_pictures<R: Wait + Threads + Sync, C: Read, I: Read, W: Write>(
         }
     }
 }
-
-/// A cartridge and the text of a movie.
-pub type Files<'a> = (&'a [u8], &'a [u8]);
 
 /// The pictures of a movie's frames, each by a shot of its own, which replays from power-on.
 pub fn shots<R: Abort>(

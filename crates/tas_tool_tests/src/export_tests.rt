@@ -1,10 +1,11 @@
 //! Exports of whole movies.
 
 use crate::checks::{check_same, check_that};
-use crate::commands::{Files, PictureCommand, shots, write_pictures};
-use crate::movies::{FOLDING, HALTING, IDLE, PICTURE, PLAYFIELD, RIGHT, image_of, recording_of};
+use crate::commands::{PictureCommand, shots, write_pictures};
+use crate::movies::{
+    FOLDING, Files, HALTING, IDLE, PICTURE, PLAYFIELD, RIGHT, image_of, recording_of,
+};
 use crate::pictures::{check_faults, check_full, check_pictures};
-use crate::programs::ONE_FRAME;
 use std::alloc::Global;
 use std::process::Abort;
 use std::sync::Wait;
@@ -140,11 +141,12 @@ static FAILED_READS: [(usize, usize, Result<(), ToolFault>, (usize, usize)); 5] 
 #[test]
 fn an_export_does_not_read_on(rt: HostRuntime) {
     let alloc = rt.alloc();
-    let image = image_of(&rt, alloc, PLAYFIELD.bytes);
+    let movie = recording_of(&rt, alloc, PLAYFIELD, 1, IDLE);
+    let (image, text) = movie.files();
     for row in FAILED_READS.iter() {
         let (cart_fails, text_fails, end, reads) = *row;
-        let mut cart = Giver::new(image.as_slice(), usize::MAX, cart_fails);
-        let mut input = Giver::new(ONE_FRAME, usize::MAX, text_fails);
+        let mut cart = Giver::new(image, usize::MAX, cart_fails);
+        let mut input = Giver::new(text, usize::MAX, text_fails);
         let mut output = Vec::new(alloc);
         let ended = write_pictures(&rt, alloc, FIRST, &mut cart, &mut input, &mut output);
         check_same(&rt, reads, ended, end);

@@ -2,9 +2,8 @@
 
 use crate::answers::{Answer, SIZE, check_answer};
 use crate::checks::check_same;
-use crate::commands::{Files, LineCommand, answer_over_movie};
-use crate::movies::{IDLE, PLAYFIELD, image_of, joined, recording_of};
-use crate::programs::ONE_FRAME;
+use crate::commands::{LineCommand, answer_over_movie};
+use crate::movies::{Files, IDLE, PLAYFIELD, image_of, joined, recording_of};
 use crate::talks::check_lines;
 use std::alloc::Global;
 use std::fmt::Debug;
@@ -121,8 +120,8 @@ fn faults_over_a_movie_come_in_order(rt: HostRuntime) {
 #[test]
 fn a_full_writer_ends_a_script_over_a_movie(rt: HostRuntime) {
     let alloc = rt.alloc();
-    let cart = image_of(&rt, alloc, PLAYFIELD.bytes);
-    let files = (cart.as_slice(), ONE_FRAME);
+    let movie = recording_of(&rt, alloc, PLAYFIELD, 1, IDLE);
+    let files = movie.files();
     let mut room = [0u8; 5];
     let end = answer_over_movie(&rt, alloc, files, b"len\n", &mut room.as_mut_slice());
     check_same(

@@ -1,7 +1,6 @@
-//! Cartridges and movies of the tests.
+//! Cartridges and movies of the tests. `tas_tool_tests` and `tas_program_tests` have this file, letter by letter: checks.rt says why.
 
 use crate::checks::expect_ok;
-use crate::commands::Files;
 use std::alloc::Global;
 use std::process::Abort;
 
@@ -110,6 +109,9 @@ pub fn text_of<R: Abort>(
     }
     text
 }
+
+/// A cartridge and the text of a movie.
+pub type Files<'a> = (&'a [u8], &'a [u8]);
 
 /// A cartridge, and the text of a movie of it.
 #[derive(Drop)]

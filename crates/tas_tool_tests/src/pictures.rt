@@ -2,8 +2,8 @@
 
 use crate::answers::{Answer, DIGEST, SIZE};
 use crate::checks::{check_same, check_that};
-use crate::commands::{Files, PictureCommand, write_pictures};
-use crate::movies::{HALTING, IDLE, PLAYFIELD, image_of, text_of};
+use crate::commands::{PictureCommand, write_pictures};
+use crate::movies::{Files, HALTING, IDLE, PLAYFIELD, image_of, text_of};
 use std::alloc::Global;
 use std::process::Abort;
 use std::sync::Wait;

@@ -2,8 +2,8 @@
 
 use crate::answers::{Answer, check_answer};
 use crate::checks::{check_same, expect_ok};
-use crate::commands::{Files, LineCommand, answer_lines, talk_from_movie};
-use crate::movies::joined;
+use crate::commands::{LineCommand, answer_lines, talk_from_movie};
+use crate::movies::{Files, joined};
 use std::alloc::Global;
 use std::fmt::Debug;
 use std::io::Read;
