@@ -10,28 +10,28 @@ use tas_program::{Order, Pair, Start, Task, read_words};
 pub type Names<'a> = (&'a str, &'a str);
 
 /// A task's command, the names of its files and its numbers, each in the order of its words, a desk's pairs, and the file that its output
-/// replaces. Different tasks have different parts.
+/// replaces. The goal of a search is among its files. Different tasks have different parts.
 type Parts<'a> = (
     &'a str,
-    [Option<&'a str>; 3],
-    [Option<usize>; 3],
+    [Option<&'a str>; 4],
+    [Option<usize>; 4],
     [Option<Names<'a>>; 8],
     Option<&'a str>,
 );
 
 /// One number.
-fn one(number: usize) -> [Option<usize>; 3] {
-    [Some(number), None, None]
+fn one(number: usize) -> [Option<usize>; 4] {
+    [Some(number), None, None, None]
 }
 
 /// Two numbers.
-fn two(first: usize, second: usize) -> [Option<usize>; 3] {
-    [Some(first), Some(second), None]
+fn two(first: usize, second: usize) -> [Option<usize>; 4] {
+    [Some(first), Some(second), None, None]
 }
 
 /// The names of a movie's files.
-fn movie<'a>(cart: &'a str, movie: &'a str) -> [Option<&'a str>; 3] {
-    [Some(cart), Some(movie), None]
+fn movie<'a>(cart: &'a str, movie: &'a str) -> [Option<&'a str>; 4] {
+    [Some(cart), Some(movie), None, None]
 }
 
 /// The names of a pair's files, where there is a pair.
@@ -63,38 +63,61 @@ fn pairs<'a>(task: Task<'a>) -> [Option<Names<'a>>; 8] {
 fn parts<'a>(order: Order<'a>) -> Parts<'a> {
     let task = order.task;
     let (command, files, numbers) = match task {
-        Task::Trace { instructions } => ("trace", [None; 3], one(instructions as usize)),
-        Task::Check { cart } => ("check", [Some(cart), None, None], [None; 3]),
-        Task::Migrate { cart } => ("migrate", [Some(cart), None, None], [None; 3]),
-        Task::New { cart, frames } => ("new", [Some(cart), None, None], one(frames)),
-        Task::Shot { cart, frame } => ("shot", [Some(cart), None, None], one(frame)),
-        Task::Film { cart, from, to } => ("film", [Some(cart), None, None], [from, to, None]),
+        Task::Trace { instructions } => ("trace", [None; 4], one(instructions as usize)),
+        Task::Check { cart } => ("check", [Some(cart), None, None, None], [None; 4]),
+        Task::Migrate { cart } => ("migrate", [Some(cart), None, None, None], [None; 4]),
+        Task::New { cart, frames } => ("new", [Some(cart), None, None, None], one(frames)),
+        Task::Search(words) => (
+            "search",
+            [
+                Some(words.cart),
+                Some(words.goal),
+                words.choices,
+                words.names,
+            ],
+            [
+                Some(words.from),
+                Some(words.frames),
+                Some(words.hold),
+                Some(words.states),
+            ],
+        ),
+        Task::Shot { cart, frame } => ("shot", [Some(cart), None, None, None], one(frame)),
+        Task::Film { cart, from, to } => (
+            "film",
+            [Some(cart), None, None, None],
+            [from, to, None, None],
+        ),
         Task::Export {
             cart,
             from,
             to,
             workers,
         } => {
-            let numbers = [Some(from), Some(to), Some(workers)];
-            ("export", [Some(cart), None, None], numbers)
+            let numbers = [Some(from), Some(to), Some(workers), None];
+            ("export", [Some(cart), None, None, None], numbers)
         }
-        Task::Ram { cart, from, to } => ("ram", [Some(cart), None, None], two(from, to)),
-        Task::Digest { cart, every } => ("digest", [Some(cart), None, None], one(every)),
-        Task::Compare { cart, old } => ("compare", [Some(cart), Some(old), None], [None; 3]),
-        Task::Lag { cart } => ("lag", [Some(cart), None, None], [None; 3]),
+        Task::Ram { cart, from, to } => ("ram", [Some(cart), None, None, None], two(from, to)),
+        Task::Digest { cart, every } => ("digest", [Some(cart), None, None, None], one(every)),
+        Task::Compare { cart, old } => ("compare", [Some(cart), Some(old), None, None], [None; 4]),
+        Task::Lag { cart } => ("lag", [Some(cart), None, None, None], [None; 4]),
         Task::Edit {
             cart,
             script,
             other,
-        } => ("edit", [Some(cart), Some(script), other], [None; 3]),
-        Task::Cut { cart, from, to } => ("cut", [Some(cart), None, None], two(from, to)),
-        Task::Diff { cart, old } => ("diff", [Some(cart), Some(old), None], [None; 3]),
-        Task::Script(None) => ("script", [None; 3], [None; 3]),
-        Task::Script(Some(files)) => ("script", movie(files.cart, files.movie), [None; 3]),
-        Task::Talk(Start::Blank) => ("talk", [None; 3], [None; 3]),
-        Task::Talk(Start::Cart { cart }) => ("talk", [Some(cart), None, None], [None; 3]),
-        Task::Talk(Start::Movie(files)) => ("talk", movie(files.cart, files.movie), [None; 3]),
-        Task::Desk { cart, movie, .. } => ("desk", [Some(cart), Some(movie), None], [None; 3]),
+        } => ("edit", [Some(cart), Some(script), other, None], [None; 4]),
+        Task::Cut { cart, from, to } => ("cut", [Some(cart), None, None, None], two(from, to)),
+        Task::Diff { cart, old } => ("diff", [Some(cart), Some(old), None, None], [None; 4]),
+        Task::Script(None) => ("script", [None; 4], [None; 4]),
+        Task::Script(Some(files)) => ("script", movie(files.cart, files.movie), [None; 4]),
+        Task::Talk(Start::Blank) => ("talk", [None; 4], [None; 4]),
+        Task::Talk(Start::Cart { cart }) => ("talk", [Some(cart), None, None, None], [None; 4]),
+        Task::Talk(Start::Movie(files)) => ("talk", movie(files.cart, files.movie), [None; 4]),
+        Task::Desk { cart, movie, .. } => (
+            "desk",
+            [Some(cart), Some(movie), None, None],
+            [None; 4],
+        ),
     };
     (command, files, numbers, pairs(task), order.output)
 }

@@ -11,7 +11,7 @@ use std::thread::Threads;
 type Refused<'a> = (&'a [&'a str], &'a [u8]);
 
 /// Words of which one is in a number's place, or one too many: each text has a tip, with the right line.
-static TIPS: [Refused<'static>; 9] = [
+static TIPS: [Refused<'static>; 11] = [
     (
         &["shot", "game.bin", "game.movie"],
         b"error: invalid value 'game.movie' for '<K>': invalid digit found in string\n\n  tip: the movie is read from standard input: tas shot game.bin 60 < game.movie > frame60.ppm\n\nFor more information, try '--help'.\n",
@@ -19,6 +19,14 @@ static TIPS: [Refused<'static>; 9] = [
     (
         &["check", "game.bin", "game.movie"],
         b"error: unexpected argument 'game.movie' found\n\n  tip: the movie is read from standard input: tas check game.bin < game.movie\n\nUsage: tas check <CART> < MOVIE\n\nFor more information, try '--help'.\n",
+    ),
+    (
+        &["search", "game.bin", "60", "12", "reach 1", "game.movie"],
+        b"error: unexpected argument 'game.movie' found\n\n  tip: the movie is read from standard input: tas search game.bin 60 12 'reach byte:80 == 85' < game.movie\n\nUsage: tas search [OPTIONS] <CART> <FROM> <FRAMES> <GOAL> < MOVIE\n\nFor more information, try '--help'.\n",
+    ),
+    (
+        &["search", "game.bin", "game.movie", "60", "reach 1"],
+        b"error: invalid value 'game.movie' for '<FROM>': invalid digit found in string\n\n  tip: the movie is read from standard input: tas search game.bin 60 12 'reach byte:80 == 85' < game.movie\n\nFor more information, try '--help'.\n",
     ),
     (
         &["trace", "game.bin"],
@@ -51,7 +59,7 @@ static TIPS: [Refused<'static>; 9] = [
 ];
 
 /// Words that are refused for other reasons: these texts have no tip of the program's own.
-static NO_TIPS: [Refused<'static>; 6] = [
+static NO_TIPS: [Refused<'static>; 7] = [
     (
         &["shot", "game.bin"],
         b"error: the following required arguments were not provided:\n  <K>\n\nUsage: tas shot <CART> <K> < MOVIE\n\nFor more information, try '--help'.\n",
@@ -67,6 +75,10 @@ static NO_TIPS: [Refused<'static>; 6] = [
     (
         &["new", "game.bin", "game.movie"],
         b"error: invalid value 'game.movie' for '<FRAMES>': invalid digit found in string\n\nFor more information, try '--help'.\n",
+    ),
+    (
+        &["search", "game.bin", "0", "1", "reach 1", "--hold", "x"],
+        b"error: invalid value 'x' for '--hold <N>': invalid digit found in string\n\nFor more information, try '--help'.\n",
     ),
     (
         &["desk", "game.bin", "game.movie", "in0"],
@@ -96,9 +108,9 @@ fn other_words_get_no_tip(rt: HostRuntime) {
 }
 
 /// The commands, and no command.
-static COMMANDS: [&str; 17] = [
-    "trace", "check", "migrate", "new", "shot", "film", "export", "ram", "digest", "compare",
-    "lag", "edit", "cut", "diff", "script", "talk", "desk",
+static COMMANDS: [&str; 18] = [
+    "trace", "check", "migrate", "new", "search", "shot", "film", "export", "ram", "digest",
+    "compare", "lag", "edit", "cut", "diff", "script", "talk", "desk",
 ];
 
 /// Fails where a line of a text has more than 100 bytes.

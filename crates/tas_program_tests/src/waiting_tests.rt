@@ -64,7 +64,7 @@ impl<'a> Folder for Place<'a> {
 type Case<'a> = (&'a [&'a str], &'a str);
 
 /// A word at fault is reported without it.
-static CASES: [Case<'static>; 23] = [
+static CASES: [Case<'static>; 24] = [
     (
         &["trace", "3"],
         "waiting: the cartridge is read from standard input: tas trace 3 < game.bin\n",
@@ -76,6 +76,10 @@ static CASES: [Case<'static>; 23] = [
     (
         &["migrate", "game.bin"],
         "waiting: the movie is read from standard input: tas migrate game.bin -o new.movie < old.movie\n",
+    ),
+    (
+        &["search", "game.bin", "0", "1", "reach 1"],
+        "waiting: the movie is read from standard input: tas search game.bin 60 12 'reach byte:80 == 85' < game.movie\n",
     ),
     (
         &["shot", "game.bin", "0"],

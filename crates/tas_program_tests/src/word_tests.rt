@@ -11,7 +11,7 @@ use std::sync::Wait;
 use std::thread::Threads;
 
 /// Words that name a task, the first of them its command, and the task's files and numbers.
-static TASKS: [(&[&str], &[&str], &[usize]); 35] = [
+static TASKS: [(&[&str], &[&str], &[usize]); 38] = [
     (&["trace", "0"], &[], &[0]),
     (&["trace", "3"], &[], &[3]),
     (&["trace", "1000000"], &[], &[1_000_000]),
@@ -19,6 +19,44 @@ static TASKS: [(&[&str], &[&str], &[usize]); 35] = [
     (&["migrate", "a.bin"], &["a.bin"], &[]),
     (&["new", "a.bin", "0"], &["a.bin"], &[0]),
     (&["new", "7", "262144"], &["7"], &[262_144]),
+    (
+        &["search", "a.bin", "0", "0", "reach x"],
+        &["a.bin", "reach x"],
+        &[0, 0, 1, 100_000],
+    ),
+    (
+        &[
+            "search",
+            "a.bin",
+            "9999999",
+            "262144",
+            "b",
+            "--choices",
+            "c",
+            "--names",
+            "d",
+            "--hold",
+            "262144",
+            "--most",
+            "9999999",
+        ],
+        &["a.bin", "b", "c", "d"],
+        &[9_999_999, 262_144, 262_144, 9_999_999],
+    ),
+    (
+        &[
+            "search",
+            "--most=1",
+            "--hold=1",
+            "7",
+            "--choices=c",
+            "8",
+            "9",
+            "b",
+        ],
+        &["7", "b", "c"],
+        &[8, 9, 1, 1],
+    ),
     (&["shot", "a.bin", "0"], &["a.bin"], &[0]),
     (&["shot", "7", "1000001"], &["7"], &[1_000_001]),
     (&["shot", "b", "9999999"], &["b"], &[9_999_999]),
@@ -94,7 +132,7 @@ fn each_command_is_its_task(rt: HostRuntime) {
 
 /// Words that are no task: none, an unknown one, too few, too many, numbers past their ranges and
 /// texts that are no numbers, unknown flags.
-static MISUSES: [&[&str]; 83] = [
+static MISUSES: [&[&str]; 96] = [
     &[],
     &[""],
     &["play"],
@@ -118,6 +156,25 @@ static MISUSES: [&[&str]; 83] = [
     &["new", "game.bin", "-1"],
     &["new", "game.bin", "x"],
     &["new", "game.bin", "1", "1"],
+    &["search"],
+    &["search", "game.bin", "0", "1"],
+    &["search", "game.bin", "0", "1", "reach 1", "other"],
+    &["search", "game.bin", "10000000", "1", "reach 1"],
+    &["search", "game.bin", "0", "262145", "reach 1"],
+    &["search", "game.bin", "x", "1", "reach 1"],
+    &["search", "game.bin", "0", "1", "reach 1", "--hold", "0"],
+    &[
+        "search", "game.bin", "0", "1", "reach 1", "--hold", "262145",
+    ],
+    &["search", "game.bin", "0", "1", "reach 1", "--most", "0"],
+    &[
+        "search", "game.bin", "0", "1", "reach 1", "--most", "10000000",
+    ],
+    &["search", "game.bin", "0", "1", "reach 1", "--most"],
+    &[
+        "search", "game.bin", "0", "1", "reach 1", "--names", "other", "--names", "other",
+    ],
+    &["search", "game.bin", "0", "1", "reach 1", "-o", "other"],
     &["shot", "game.bin"],
     &["shot", "game.bin", "10000000"],
     &["shot", "game.bin", "-1"],
@@ -276,7 +333,7 @@ fn a_missing_word_is_named(rt: HostRuntime) {
 }
 
 /// Words that ask for help, and the beginning of the text.
-static HELPS: [Shown<'static>; 18] = [
+static HELPS: [Shown<'static>; 19] = [
     (
         &["--help"],
         b"Replays movies of Atari 2600 cartridges, exactly and from power-on\n\nUsage: tas <COMMAND>\n",
@@ -300,6 +357,10 @@ static HELPS: [Shown<'static>; 18] = [
     (
         &["new", "--help"],
         b"Writes the text of a movie in which nothing is pressed\n\nUsage: tas new [OPTIONS] <CART> <FRAMES>\n",
+    ),
+    (
+        &["search", "--help"],
+        b"Searches for the best inputs of some frames and writes the script that makes them\n\nUsage: tas search [OPTIONS] <CART> <FROM> <FRAMES> <GOAL> < MOVIE\n",
     ),
     (
         &["shot", "--help"],

@@ -1,0 +1,362 @@
+//! `tas search`: the script on standard output, the verdict on standard error, and the fault of each input.
+
+use crate::checks::check_same;
+use crate::movies::{IDLE, Program, Recording, recording_of};
+use crate::programs::{End, check_ran, words_of};
+use std::alloc::Global;
+use std::io;
+use std::io::{Error, ErrorKind, Write};
+use std::process::Abort;
+use std::sync::Wait;
+use std::thread::Threads;
+use tas_program::{Folder, OrdinaryFile, Permit, Streams, run_program};
+use test_streams::{Failure, Room, Taker};
+
+/// `000=18A9028500A9008500AD80020AB002E6800AB002C68085024C00F0 FFC=00F0`: each frame but the first counts the byte at 80 up if the left stick
+/// is to the right, and down if it is to the left.
+const COUNTING: Program = Program {
+    bytes: b"\x18\xa9\x02\x85\x00\xa9\x00\x85\x00\xad\x80\x02\x0a\xb0\x02\xe6\x80\x0a\xb0\x02\xc6\x80\x85\x02\x4c\x00\xf0",
+    digest: "953a48a0284b192294dc2804abb48a7da778e16bb0fa25219d2efab1b4cb7e02",
+};
+
+/// A folder with a cartridge, the choices nothing, right and left, and a names file that is right and one that is wrong.
+#[derive(Clone, Copy)]
+struct Place<'a> {
+    game: &'a [u8],
+}
+
+impl<'a> Folder for Place<'a> {
+    type File = &'a [u8];
+
+    type Sink = Taker;
+
+    fn look(&self, _name: &str) -> Option<OrdinaryFile> {
+        None
+    }
+
+    fn open(&self, name: &str) -> io::Result<&'a [u8]> {
+        match name {
+            "game.bin" => Ok(self.game),
+            "choices" => Ok(b"..... ..... .....\nR.... ..... .....\n.L... ..... .....\n"),
+            "names" => Ok(b"n 80\n"),
+            "wrong" => Ok(b"n 7F\n"),
+            _ => Err(Error::from(ErrorKind::NotFound)),
+        }
+    }
+
+    fn open_to_write(&self, _permit: Permit, _name: &str) -> io::Result<Taker> {
+        Err(Error::from(ErrorKind::NotFound))
+    }
+}
+
+/// The cartridge, and a movie of five frames in which nothing is pressed.
+fn five_frames<R: Abort>(rt: &R, alloc: Global) -> Recording {
+    recording_of(rt, alloc, COUNTING, 5, IDLE)
+}
+
+/// Runs the program with these words over this movie: its status. What it writes, and what it reports, goes to these writers.
+fn run_search<T: Threads + Wait + Abort + Sync, W: Write, E: Write>(
+    rt: &T,
+    alloc: Global,
+    movie: &Recording,
+    words: &[&str],
+    output: &mut W,
+    errors: &mut E,
+) -> u8 {
+    let words = words_of(rt, alloc, words).into_iter();
+    let (game, input) = movie.files();
+    let mut streams = Streams {
+        input,
+        output,
+        errors,
+    };
+    let folder = Place { game };
+    run_program(rt, alloc, alloc, Ok(words), &folder, &mut streams).code()
+}
+
+/// Fails where the program over this movie ends in another way.
+fn check_end<R: Threads + Wait + Abort + Sync>(
+    rt: &R,
+    alloc: Global,
+    movie: &Recording,
+    words: &[&str],
+    end: End<'_>,
+) {
+    let (mut output, mut errors) = (Vec::new(alloc), Vec::new(alloc));
+    let code = run_search(rt, alloc, movie, words, &mut output, &mut errors);
+    let found = (code, output.as_slice(), errors.as_slice());
+    check_ran(rt, words, found, end);
+}
+
+/// The words of a search, its script and its verdict, by hand.
+static SEARCHES: [(&[&str], &[u8], &[u8]); 9] = [
+    (
+        &[
+            "search",
+            "game.bin",
+            "3",
+            "4",
+            "reach n == 2",
+            "--choices",
+            "choices",
+            "--names",
+            "names",
+        ],
+        b"replace 3 1 R.... ..... .....\nreplace 4 1 R.... ..... .....\n",
+        b"best of all 81 sequences\n",
+    ),
+    (
+        &[
+            "search",
+            "game.bin",
+            "3",
+            "4",
+            "reach n == 4",
+            "--choices",
+            "choices",
+            "--names",
+            "names",
+            "--hold",
+            "2",
+        ],
+        b"insert 5 2 ..... ..... .....\nreplace 3 2 R.... ..... .....\nreplace 5 2 R.... ..... .....\n",
+        b"best of all 9 sequences\n",
+    ),
+    (
+        &[
+            "search",
+            "game.bin",
+            "3",
+            "1",
+            "reach byte:80 == 1",
+            "--choices",
+            "choices",
+        ],
+        b"replace 3 1 R.... ..... .....\n",
+        b"best of all 3 sequences\n",
+    ),
+    (
+        &["search", "game.bin", "3", "1", "reach byte:80 == 1"],
+        b"replace 3 1 R.... ..... .....\n",
+        b"best of all 18 sequences\n",
+    ),
+    (
+        &[
+            "search",
+            "game.bin",
+            "3",
+            "1",
+            "reach n == 1",
+            "--names",
+            "names",
+        ],
+        b"replace 3 1 R.... ..... .....\n",
+        b"best of all 18 sequences\n",
+    ),
+    (
+        &["search", "game.bin", "3", "0", "most byte:80"],
+        b"",
+        b"best of all 1 sequences\n",
+    ),
+    (
+        &[
+            "search",
+            "game.bin",
+            "3",
+            "4",
+            "reach byte:80 == 9",
+            "--choices",
+            "choices",
+        ],
+        b"",
+        b"none: not one of all 81 sequences reaches it\n",
+    ),
+    (
+        &[
+            "search",
+            "game.bin",
+            "3",
+            "4",
+            "reach byte:80 == 9",
+            "--choices",
+            "choices",
+            "--most",
+            "2",
+        ],
+        b"",
+        b"stopped: more than 2 states in layer 1: none of up to 0 frames reaches it\n",
+    ),
+    (
+        &[
+            "search",
+            "game.bin",
+            "3",
+            "3",
+            "least byte:80",
+            "--choices",
+            "choices",
+            "--most",
+            "4",
+        ],
+        b"",
+        b"stopped: more than 4 states in layer 2\n",
+    ),
+];
+
+#[test]
+fn scripts_and_verdicts(rt: HostRuntime) {
+    let alloc = rt.alloc();
+    let movie = five_frames(&rt, alloc);
+    for (words, script, verdict) in SEARCHES.iter() {
+        check_end(&rt, alloc, &movie, words, (0, script, verdict));
+    }
+}
+
+/// The words of a search that has no answer, and its fault.
+static FAULTS: [(&[&str], &[u8]); 15] = [
+    (
+        &["search", "none.bin", "3", "1", "reach 1"],
+        b"fault: read failed\n",
+    ),
+    (
+        &[
+            "search",
+            "game.bin",
+            "3",
+            "1",
+            "reach 1",
+            "--choices",
+            "none",
+        ],
+        b"fault: read failed\n",
+    ),
+    (
+        &["search", "game.bin", "3", "1", "reach 1", "--names", "none"],
+        b"fault: read failed\n",
+    ),
+    (
+        &["search", "names", "3", "1", "reach 1"],
+        b"fault: cartridge has 5 bytes\n",
+    ),
+    (
+        &[
+            "search",
+            "game.bin",
+            "3",
+            "1",
+            "find",
+            "--choices",
+            "names",
+            "--names",
+            "wrong",
+        ],
+        b"fault: choices line 1: frame\n",
+    ),
+    (
+        &["search", "game.bin", "3", "1", "find", "--names", "wrong"],
+        b"fault: names line 1: address\n",
+    ),
+    (
+        &["search", "game.bin", "3", "1", "find 1", "--hold", "2"],
+        b"fault: goal word 1: reach, most or least expected\n",
+    ),
+    (
+        &["search", "game.bin", "3", "1", "reach ( =="],
+        b"fault: goal word 3: operand expected\n",
+    ),
+    (
+        &[
+            "search",
+            "game.bin",
+            "3",
+            "1",
+            "reach n = 85",
+            "--names",
+            "names",
+        ],
+        b"fault: goal word 3: operator expected\n",
+    ),
+    (
+        &["search", "game.bin", "3", "1", "reach ( 1 == 1 2"],
+        b"fault: goal word 6: ) expected\n",
+    ),
+    (
+        &["search", "game.bin", "3", "1", "reach 1 == 1 and 2"],
+        b"fault: goal word 5: end expected\n",
+    ),
+    (
+        &[
+            "search",
+            "game.bin",
+            "3",
+            "1",
+            "reach ( ( pair:80 * pair:80 ) * pair:80 ) * pair:80",
+        ],
+        b"fault: goal: too large\n",
+    ),
+    (
+        &["search", "game.bin", "6", "3", "reach 1", "--hold", "2"],
+        b"fault: frames are no multiple of hold\n",
+    ),
+    (
+        &["search", "game.bin", "6", "262144", "reach 1"],
+        b"fault: movie has 5 frames\n",
+    ),
+    (
+        &["search", "game.bin", "3", "262142", "reach 1"],
+        b"fault: movie gets too long\n",
+    ),
+];
+
+#[test]
+fn first_fault_of_the_inputs(rt: HostRuntime) {
+    let alloc = rt.alloc();
+    let movie = five_frames(&rt, alloc);
+    for (words, line) in FAULTS.iter() {
+        check_end(&rt, alloc, &movie, words, (1, b"", line));
+    }
+}
+
+/// The words of a search with a script of one line.
+const FIRST: [&str; 5] = ["search", "game.bin", "3", "1", "reach byte:80 == 1"];
+
+#[test]
+fn script_that_cannot_be_written_is_a_fault(rt: HostRuntime) {
+    let alloc = rt.alloc();
+    let movie = five_frames(&rt, alloc);
+    let mut room = [0u8; 10];
+    let mut errors = Vec::new(alloc);
+    let code = run_search(
+        &rt,
+        alloc,
+        &movie,
+        FIRST.as_slice(),
+        &mut room.as_mut_slice(),
+        &mut errors,
+    );
+    let line = b"fault: write failed after 10 bytes\n".as_slice();
+    check_same(&rt, "end", (code, errors.as_slice()), (1, line));
+    let first = b"replace 3 ".as_slice();
+    check_same(&rt, "script", room.as_slice(), first);
+}
+
+/// The verdict, which says what the script is the best of, belongs to the answer.
+#[test]
+fn verdict_that_cannot_be_written_is_a_fault(rt: HostRuntime) {
+    let alloc = rt.alloc();
+    let movie = five_frames(&rt, alloc);
+    let mut output = Vec::new(alloc);
+    let mut errors = Taker::new(alloc, 1000, Room::Bytes(11), Failure::Error);
+    let code = run_search(
+        &rt,
+        alloc,
+        &movie,
+        FIRST.as_slice(),
+        &mut output,
+        &mut errors,
+    );
+    let script = b"replace 3 1 R.... ..... .....\n".as_slice();
+    check_same(&rt, "end", (code, output.as_slice()), (1, script));
+    let first = b"best of all".as_slice();
+    check_same(&rt, "verdict", errors.taken.as_slice(), first);
+}
