@@ -36,6 +36,8 @@ mod real_output_tests;
 #[cfg(test)]
 mod saving_tests;
 #[cfg(test)]
+mod search_tests;
+#[cfg(test)]
 mod tails;
 #[cfg(test)]
 mod talk_output_tests;

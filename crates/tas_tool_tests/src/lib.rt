@@ -27,8 +27,6 @@ mod plain_script;
 #[cfg(test)]
 mod script_tests;
 #[cfg(test)]
-mod search_tests;
-#[cfg(test)]
 mod spoilt_script_tests;
 #[cfg(test)]
 mod talk_by_hand_tests;
