@@ -4,3 +4,4 @@ pub mod RecoverLemmas
 pub mod LawLemmas
 pub mod HeadLemmas
 pub mod CutLemmas
+pub mod RunLemmas

@@ -6,6 +6,7 @@ pub mod desks;
 pub mod engines;
 pub mod films;
 pub mod greens;
+pub mod journals;
 pub mod machines;
 pub mod movies;
 pub mod searches;

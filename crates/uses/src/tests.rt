@@ -5,6 +5,7 @@ use crate::desks::open;
 use crate::engines::check_movie;
 use crate::films::first_second;
 use crate::greens::{shot_and_job, steps};
+use crate::journals::{journal_of, made_of};
 use crate::machines::{copy_is_same, first_instructions, lit_in_first_frame, pins_of_fire_and_up};
 use crate::movies::{text_is_read_back, two_hundred_frames};
 use crate::searches::shortest_to;
@@ -65,6 +66,19 @@ fn a_movie(rt: HostRuntime) -> Result<()> {
     let cart = Cart::from_bytes(rt.alloc(), &image())?;
     let movie = two_hundred_frames(rt.alloc(), &cart)?;
     assert!(rt; text_is_read_back(rt.alloc(), &movie)?);
+    Ok(())
+}
+
+#[test]
+fn a_journal(rt: HostRuntime) -> Result<()> {
+    let cart = Cart::from_bytes(rt.alloc(), &image())?;
+    let movie = two_hundred_frames(rt.alloc(), &cart)?;
+    let mut journal = journal_of(rt.alloc(), &movie)?;
+    let made = made_of(rt.alloc(), journal.as_slice(), &movie)?;
+    assert_eq!(rt; made, (190, 1, false));
+    journal.extend_from_slice(b"1 3 delete 0")?;
+    let made = made_of(rt.alloc(), journal.as_slice(), &movie)?;
+    assert_eq!(rt; made, (190, 1, true));
     Ok(())
 }
 
