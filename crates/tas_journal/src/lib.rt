@@ -1,6 +1,6 @@
 //! Journals: a file that has a movie and the edits that were accepted after it, and what is recovered from such a file.
 //!
-//! A crate of its own: a desk's conversations will write journals, `tas recover` recovers them, and neither the language of
+//! A crate of its own: a desk's conversations will write journals, a command will recover them, and neither the language of
 //! scripts (`tas_language`) nor the commands without a desk (`tas_engines`) need one. It has no file and no desk: journals are
 //! bytes, of a reader where [`recover_run`] reads one.
 #![tactic(auto)]
