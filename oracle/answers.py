@@ -13,14 +13,15 @@ from hashlib import sha256
 HERE = pathlib.Path(__file__).resolve().parent
 
 
-def load_hands():
-    loader = importlib.machinery.SourceFileLoader("hands", str(HERE / "hands"))
-    module = importlib.util.module_from_spec(importlib.util.spec_from_loader("hands", loader))
+def load_script(name):
+    """A script of this folder as a module."""
+    loader = importlib.machinery.SourceFileLoader(name, str(HERE / name))
+    module = importlib.util.module_from_spec(importlib.util.spec_from_loader(name, loader))
     loader.exec_module(module)
     return module
 
 
-hands = load_hands()
+hands = load_script("hands")
 TOLD_AT_ONCE = 256
 LONGEST_LINE = 16384
 PART = re.compile(r"([0-9A-F]{3})=((?:[0-9A-F]{2})+)")
