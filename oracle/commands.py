@@ -17,14 +17,14 @@ from resting import BLACK, MOST_PLAYED, Open, check_reach, rest_of
 
 MOST_BYTES = 16777216
 MOST_DRAWN = 200
-# The words after each command: a cartridge, a file, a movie's file, a number; those after the bar may be missing. And the most that each number may be.
+MOST_STATES = 100000  # of a layer of a search, without --most
+# The words after each command: a cartridge, a file, a movie's file, a goal, a number; those after the bar may be missing. And the most that each number may be.
 FORMS = {
     "check": "c", "migrate": "c", "edit": "cf", "cut": "cnn", "diff": "cm", "script": "", "talk": "|cm", "shot": "cn", "film": "c|nn", "export": "cnnw", "ram": "cnn",
-    "digest": "c|e", "compare": "cm", "lag": "c", "trace": "t", "new": "cl", "desk": "cmff|ffffffffffffff", "search": "cnlg"}
-NUMBERS = {"n": (0, 9999999), "w": (1, 16), "e": (1, MOST), "l": (0, MOST), "t": (0, 1000000), "s": (1, 9999999)}
-FLAGS = {"edit": ("--with",), "script": ("--cart", "--movie"), "search": ("--choices", "--names", "--hold", "--most")}
-NUMBERS_OF_FLAGS = {"--hold": "e", "--most": "s"}
-MOST_STATES = 100000  # of one number of choices, without --most
+    "digest": "c|e", "compare": "cm", "lag": "c", "trace": "t", "new": "cl", "search": "cnlg", "desk": "cmff|ffffffffffffff"}
+NUMBERS = {"n": (0, 9999999), "w": (1, 16), "e": (1, MOST), "l": (0, MOST), "s": (1, 9999999), "t": (0, 1000000)}
+FLAGS = {"edit": ("--with",), "search": ("--choices", "--names", "--hold", "--most"), "script": ("--cart", "--movie")}
+FLAG_NUMBERS = {"--hold": "e", "--most": "s"}
 NUMBER = re.compile(r"\+?0*([0-9]{1,8})")
 
 Wanted = namedtuple("Wanted", "output errors status")  # nothing stands for a text for people
@@ -65,8 +65,7 @@ def apart(command, words):
             raise Wrong
         if flag in flagged or not is_joined and is_flag(words[0]):
             raise Open("a flag that is given twice, or is followed by one")
-        value = value if is_joined else words.pop(0)
-        flagged[flag] = number_of(value, NUMBERS_OF_FLAGS[flag]) if flag in NUMBERS_OF_FLAGS else value
+        flagged[flag] = value if is_joined else words.pop(0)
     return plain, flagged
 
 
@@ -79,6 +78,7 @@ def given(command, words):
         raise Wrong
     if command == "script" and len(flagged) == 1:
         raise Open("`tas script` with one of its flags alone")
+    flagged = {flag: number_of(word, FLAG_NUMBERS[flag]) if flag in FLAG_NUMBERS else word for flag, word in flagged.items()}
     return [(kind, number_of(word, kind) if kind in NUMBERS else word) for kind, word in zip(form, plain)], flagged
 
 
@@ -179,6 +179,26 @@ class Run:
     def new(self, cart, frames):
         cart, = self.inputs.read([cart], False)
         return hands.movie_text(sized(cart), [hands.REST] * frames)
+
+    def search(self, cart, start, frames, goal, choices=None, names=None, hold=1, most=MOST_STATES):
+        """The script; the verdict goes to standard error."""
+        cart, *texts, movie = self.inputs.read([cart] + [name for name in (choices, names) if name is not None])
+        movie = readings.read_movie(movie, sized(cart))
+        choices = searches.STICK if choices is None else searches.read_choices(texts[0])
+        goal = searches.read_goal(goal, {} if names is None else searches.read_names(texts[-1]))
+        if frames % hold:
+            raise hands.Fault("frames are no multiple of hold")
+        if start > len(movie):
+            raise hands.Fault("movie has %d frames" % len(movie))
+        if start + frames > MOST:
+            raise hands.Fault("movie gets too long")
+        count = frames // hold
+        if count > searches.MOST_CHOICES or searches.frames_of(start, len(choices), count, hold) > self.most_searched:
+            raise Open("too many frames for this comparison")
+        space = searches.space_of(cart, tuple(movie[:start]), tuple(choices), count, hold)
+        verdict, sequence = searches.answer(space, goal, most)
+        self.errors = (verdict + "\n").encode()
+        return b"" if sequence is None else searches.script_of(sequence, space, start, len(movie))
 
     def edit(self, cart, script, **flagged):
         others = [flagged["with"]] if flagged else []
@@ -297,28 +317,6 @@ class Run:
     def lag(self, cart):
         cart, frames = self.movie(cart)
         return self.played(cart, len(frames)).lag_lines(0, len(frames)) if frames else b""
-
-    # -- what plays sequences
-
-    def search(self, cart, start, frames, goal, choices=None, names=None, hold=1, most=MOST_STATES):
-        """The script; the verdict goes to standard error."""
-        cart, *texts, movie = self.inputs.read([cart] + [name for name in (choices, names) if name is not None])
-        movie = readings.read_movie(movie, sized(cart))
-        choices = searches.STICK if choices is None else searches.read_choices(texts[0])
-        goal = searches.read_goal(goal, {} if names is None else searches.read_names(texts[-1]))
-        if frames % hold:
-            raise hands.Fault("frames are no multiple of hold")
-        if start > len(movie):
-            raise hands.Fault("movie has %d frames" % len(movie))
-        if start + frames > MOST:
-            raise hands.Fault("movie gets too long")
-        count = frames // hold
-        if count > searches.MOST_CHOICES or searches.frames_of(start, len(choices), count, hold) > self.most_searched:
-            raise Open("too many frames for this comparison")
-        space = searches.space_of(cart, tuple(movie[:start]), tuple(choices), count, hold)
-        verdict, sequence = searches.answer(space, goal, most)
-        self.errors = (verdict + "\n").encode()
-        return b"" if sequence is None else searches.script_of(sequence, space, start, len(movie))
 
     def trace(self, count):
         cart, = self.inputs.read([])

@@ -1,6 +1,6 @@
 """What a search answers: what goals, names files and choices files say, all sequences of a space, and the best of them.
 
-Written from docs/FORMATS.md, "Goals of a search", alone. Each sequence is played by quick.py from the state that the sequence before its last choice leaves, and no two are taken
+Written from docs/FORMATS.md, "Search" and "Goals of a search", alone. Each sequence is played by quick.py from the state that the sequence before its last choice leaves, and no two are taken
 for one, whatever their states: states are compared only where the page asks how many different ones there are.
 """
 
@@ -218,7 +218,7 @@ class Space:
         """Whether more than so many different states are reached by sequences of a number of choices."""
         least, greatest = self.sizes[layer]
         if least <= most < greatest:
-            raise Open("which states are different: the page doesn't say what of a register's unused bits a state has")
+            raise Open("which bits of a register belong to a state")
         return most < least
 
 

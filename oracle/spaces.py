@@ -357,8 +357,8 @@ def words_of(expression, is_outer=True):
 class Expressions:
     """Random expressions over bytes of RAM, by their addresses and by names."""
 
-    def __init__(self, rng, names, addresses):
-        self.rng, self.names, self.addresses = rng, names, addresses
+    def __init__(self, rng, names, addresses, space=None):
+        self.rng, self.names, self.addresses, self.space = rng, names, addresses, space
 
     def place(self, address):
         """The address, or a name that it has."""
@@ -386,14 +386,26 @@ class Expressions:
         rng = self.rng
         if depth == 0 or rng.random() < 0.15:
             return self.look(self.some_address()) if rng.random() < 0.7 else self.number()
+        if rng.random() < 0.25:
+            return self.compared(self.look(self.some_address()))
         if rng.random() < 0.15:
             return ["not", self.some(depth - 1)]
         return [self.some(depth - 1), rng.choice(list(searches.OPERATORS)), self.some(depth - 1)]
 
+    def compared(self, word):
+        """A comparison with what the word is after one of the sequences."""
+        ram = self.rng.choice(self.rng.choice([layer for layer in self.space.layers if layer])).ram if self.space else bytes(128)
+        value = str(self.value_of(word, ram))
+        operator = self.rng.choice(("==", "!=", "<", "<=", ">", ">="))
+        return [word, operator, value] if self.rng.random() < 0.6 else [value, operator, word]
+
+    def value_of(self, word, ram):
+        return searches.read_goal("most " + word, self.names).value(ram)
+
     def true_of(self, ram, address):
         """A comparison that holds of this RAM."""
         word = self.look(address)
-        value = searches.read_goal("most " + word, self.names).value(ram)
+        value = self.value_of(word, ram)
         more = self.rng.choice((0, 0, 1, 3))
         return self.rng.choice((
             [word, "==", str(value)], [word, "==", str(value)], [str(value), "==", word], [word, ">=", str(max(value - more, 0))], [word, "<=", str(value + more)], [str(value + more + 1), ">", word],
@@ -418,31 +430,45 @@ def true_of_one(rng, expressions, space):
     return found
 
 
-def reaching(rng, expressions, space):
+def reaching(rng, expressions):
     """Of a few such expressions the one that takes most choices."""
-    found = [true_of_one(rng, expressions, space) for _ in range(rng.choice((1, 2, 4)))]
-    return max(found, key=lambda expression: first_layer(expression, expressions.names, space))
+    found = [true_of_one(rng, expressions, expressions.space) for _ in range(rng.choice((1, 3, 5)))]
+    return max(found, key=lambda expression: first_layer(goal_of("reach", expression, expressions.names), expressions.space))
 
 
-def first_layer(expression, names, space):
-    goal = searches.read_goal(" ".join(["reach"] + words_of(expression)), names)
+def first_layer(goal, space):
     return next(number for number, layer in enumerate(space.layers) if any(goal.value(one.ram) for one in layer))
 
 
-def goal_text(rng, expressions, space=None):
+def varying(rng, expressions):
+    """Of a few expressions the one that has most values after the last choice."""
+    found = [expressions.some(rng.choice((0, 1, 1, 2, 2, 3))) for _ in range(rng.choice((1, 3, 5)))]
+    rams = [one.ram for one in expressions.space.layers[-1][:500]]
+    return max(found, key=lambda expression: len(set(map(goal_of("most", expression, expressions.names).value, rams))))
+
+
+def goal_of(kind, expression, names):
+    try:
+        return searches.read_goal(" ".join([kind] + words_of(expression)), names)
+    except searches.TextFault:
+        return searches.Goal(kind, lambda _: 0)  # too large
+
+
+def goal_text(rng, expressions):
     """A goal. Of a space that was played, it is mostly one that some sequences reach, or whose values differ."""
-    way = rng.random()
-    if way < 0.35:
+    kind = rng.choice(("reach", "reach", "reach", "most", "least"))
+    if kind == "reach" and expressions.space and rng.random() < 0.8:
+        expression = reaching(rng, expressions)
+    elif kind != "reach" and expressions.space:
+        expression = varying(rng, expressions)
+    else:
         expression = expressions.some(rng.choice((0, 1, 2, 2, 3)))
-        return " ".join([rng.choice(("most", "least"))] + words_of(expression))
-    if space is None or way < 0.5:
-        return " ".join(["reach"] + words_of(expressions.some(rng.choice((1, 1, 2, 3)))))
-    return " ".join(["reach"] + words_of(reaching(rng, expressions, space)))
+    return " ".join([kind] + words_of(expression))
 
 
 # ---- goals at fault
 
-NO_WORDS = ("$85", "0x85", "byte:8a", "085", "-1", "byte:7F", "byte:", "bcd:", "pair:x1", "byte:100", str(GREATEST + 1), "99999999999999999999", "=", "=>", "&&", "!", "(x", "x)", "AB", "80:byte", "word:80", "Not",
+NO_WORDS = (str(GREATEST + 1), str(GREATEST + 1), "$85", "0x85", "byte:8a", "085", "-1", "byte:7F", "byte:", "bcd:", "pair:x1", "byte:100", "99999999999999999999", "=", "=>", "&&", "!", "(x", "x)", "AB", "80:byte", "word:80", "Not",
             "AND", "()", "", "+1", "1.0", "byte:80:80", "BYTE:80", "byte: 80", ":80", "\xb2", "<>")
 REAL_WORDS = ("(", ")", "not", "and", "or", "==", "<", "+", "-", "*", "byte:80", "pair:FF", "bcd:9C", "0", "7", str(GREATEST), "x", "score")
 

@@ -294,7 +294,7 @@ IS_NAME = searches.is_name
 class Planted(unittest.TestCase):
     """What `search` finds with its cases, where the program has a mistake."""
 
-    CASES, SEQUENCES = 300, 250
+    CASES, SEQUENCES = 600, 250
 
     def case(self, number):
         try:
