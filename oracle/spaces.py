@@ -161,7 +161,7 @@ class Walker(Writer):
 
     # -- what they do
 
-    def effect(self, halts=0.03):
+    def effect(self, halts=0.06):
         if self.rng.random() < halts:
             self.put(self.rng.choice(UNDOCUMENTED))
             return
@@ -481,7 +481,8 @@ def goal_spoilt(rng, text):
     if way < 0.08:
         return rng.choice(("", "reach", "reach ", "most", "Reach 1", "reached 1", "max byte:80", " " + text, "byte:80 == 1", text.replace(" ", "\t", 1), text.replace(" ", "", 1), "reach\n1", "least "))
     if way < 0.2:
-        return rng.choice((text + " ", text.replace(" ", "  ", 1), text[:-1], text + "\t", text.upper(), text.replace("(", "", 1), text.replace(")", "", 1), text + "\n", " ".join(words[:place])))
+        return rng.choice((text + " ", text.replace(" ", "  ", 1), text[:-1], text + "\t", text.upper(), text.replace("(", "", 1), text.replace(")", "", 1), text + "\n", " ".join(words[:place]),
+                           text.replace("( ", "").replace(" )", ""), text + " and byte:80"))
     if way < 0.35:
         words[place:place] = [rng.choice(REAL_WORDS)]
     elif way < 0.5:
@@ -499,7 +500,7 @@ def deep_goal(rng):
     """Parentheses and `not` within one another, about as many as may be."""
     count = rng.choice((62, 63, 64, 64, 65, 65, 66, 200))
     openings = [rng.choice(("not", "(")) for _ in range(count)] if rng.random() < 0.6 else [rng.choice(("not", "("))] * count
-    words = openings + ["byte:80"]
+    words = openings + ["byte:80" if rng.random() < 0.8 else rng.choice((")", "+", "byte:7F", ""))]
     for opening in reversed(openings):
         words += [rng.choice(("+", "or", "-")), "1", ")"] if opening == "(" else []
     words += rng.choice(([], [], ["==", "not", "1"], ["+", "(", "2", "-", "1", ")"]))
