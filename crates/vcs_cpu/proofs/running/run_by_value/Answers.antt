@@ -958,26 +958,8 @@ loop-regs-smaller-else-go_on_by_load g c = comes_nearer c.requires.1.0 c.require
 pub returns-then-over : goal.returns-then-over
 returns-then-over g c = comes_to_end c.requires.1.0 c.requires.1.1.1 c.loop-regs.invariant c.perform_any-over.ensures c.if-over.true
 
-pub loop-regs-preserved-else-over : goal.loop-regs-preserved-else-over
-loop-regs-preserved-else-over g c = comes_on c.requires.1.0 c.requires.1.1.1 c.loop-regs.invariant c.perform_any-over.ensures c.if-over.false
-
-pub loop-regs-smaller-else-over : goal.loop-regs-smaller-else-over
-loop-regs-smaller-else-over g c = comes_nearer c.requires.1.0 c.requires.1.1.1 c.loop-regs.invariant c.perform_any-over.ensures c.if-over.false
-
-pub returns-then-over-2 : goal.returns-then-over-2
-returns-then-over-2 g c = comes_to_end c.requires.1.0 c.requires.1.1.1 c.loop-regs.invariant c.perform_any-over-in-1.ensures c.if-over-2.true
-
-pub loop-regs-preserved-else-over-2 : goal.loop-regs-preserved-else-over-2
-loop-regs-preserved-else-over-2 g c = comes_on c.requires.1.0 c.requires.1.1.1 c.loop-regs.invariant c.perform_any-over-in-1.ensures c.if-over-2.false
-
-pub loop-regs-smaller-else-over-2 : goal.loop-regs-smaller-else-over-2
-loop-regs-smaller-else-over-2 g c = comes_nearer c.requires.1.0 c.requires.1.1.1 c.loop-regs.invariant c.perform_any-over-in-1.ensures c.if-over-2.false
-
-pub returns-then-over-3 : goal.returns-then-over-3
-returns-then-over-3 g c = comes_to_end c.requires.1.0 c.requires.1.1.1 c.loop-regs.invariant c.perform_any-over-in_default.ensures c.if-over-3.true
-
 pub loop-regs-preserved : goal.loop-regs-preserved
-loop-regs-preserved g c = comes_on c.requires.1.0 c.requires.1.1.1 c.loop-regs.invariant c.perform_any-over-in_default.ensures c.if-over-3.false
+loop-regs-preserved g c = comes_on c.requires.1.0 c.requires.1.1.1 c.loop-regs.invariant c.perform_any-over.ensures c.if-over.false
 
 pub loop-regs-smaller : goal.loop-regs-smaller
-loop-regs-smaller g c = comes_nearer c.requires.1.0 c.requires.1.1.1 c.loop-regs.invariant c.perform_any-over-in_default.ensures c.if-over-3.false
+loop-regs-smaller g c = comes_nearer c.requires.1.0 c.requires.1.1.1 c.loop-regs.invariant c.perform_any-over.ensures c.if-over.false
