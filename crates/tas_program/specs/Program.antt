@@ -149,8 +149,7 @@ abbrev pub tool_end : Result (Unit {0}) ToolFault → Result (Unit {0}) TaskFaul
 tool_end (Ok u) = Ok u
 tool_end (Err fault) = Err (Tool fault)
 
--- the engine of a task was run: that of a search, which reports to standard error, whatever this held before and holds afterwards; or that
--- of another task
+-- the engine of a task was run: that of a search, which reports to some writer, of which nothing is said here; or that of another task
 abbrev pub EngineEnds : FileBytes → Option SearchWords → Task → StreamBytes → StreamBytes → Result (Unit {0}) TaskFault → Type 0
 EngineEnds files (Some words) chosen old new end = (told told' : Option (List ℕ)) × SearchEnds files words old new told told' end
 EngineEnds files None chosen old new end = (done : Result (Unit {0}) ToolFault) × (end ≡ tool_end done) × DoesTask files chosen old new done

@@ -303,7 +303,7 @@ pub fn run_task<
     streams: &mut Streams<R, W, E>,
 ) -> Result<(), TaskFault>
     // A command is done by its engine, over its files and standard input, with its own numbers, but for an export's
-    // WORKERS, on which no answer depends; a search only where its verdict was written, too (see `run_search`).
+    // WORKERS, on which no answer depends. That the verdict of a search is written is a clause of `run_search` alone.
     // Refused: check_draws_the_first_frame*, each_file_is_the_first, migration_is_answered_as_check*,
     // talk_is_run_as_a_script*, shot_of_the_frame_before, script_and_cartridge_are_swapped*,
     // movie_and_cartridge_of_a_script_are_swapped*, film_starts_at_its_end, ram_ends_before_its_last_line*,

@@ -1,7 +1,7 @@
 //! Searches, and tasks of which some are searches.
 //!
 //! A search's answer has two parts: the script goes to standard output, so that it can go on to a file or to `tas edit`, and the verdict
-//! to standard error, where somebody sees it beside. It is no remark: what a script is the best of stands in it alone. So a search whose
+//! to standard error, where somebody sees it beside. It alone says of which sequences the script is the best. So a search whose
 //! verdict can't be written ends with a fault, while the line of a fault that can't be written changes nothing.
 
 ghost use Rattle.std.specs.Prelude.{◌≡◌, ◌⊎◌, map, IfOk, IfErr};
@@ -136,7 +136,7 @@ pub fn run_search<F: Folder, R: Read, W: Write, E: Write>(
     errors: &mut E,
 ) -> Result<(), TaskFault>
     // A search is done by `search_run`, over the files that its words name, the input and the output, with its own numbers and
-    // goal. It is done only where its report, the verdict's line, is written whole to standard error.
+    // goal. It is done only where its report, the verdict's line, is written whole to `errors`.
     // Refused: verdict_is_left_out, unwritten_verdict_is_a_good_end, verdict_goes_to_standard_output,
     // names_file_is_read_for_the_choices, each_choice_is_held_for_one_frame, search_keeps_as_many_states_as_it_has_frames.
     ensures { SearchEnds (files_by (F.bytes_of folder.now) (F.held_by folder.now) (F.shown folder.now))

@@ -53,7 +53,7 @@ Example:
 pub(crate) const SEARCH_HELP: &str = "\
 Standard input is the movie text, as for 'tas check'. An input is chosen for each of FRAMES frames
 from FROM on, and the best of all sequences of such choices is sought. GOAL says what is best:
-  reach E    the fewest frames after which E isn't 0
+  reach E    the fewest choices after which E isn't 0; within a choice it isn't looked at
   most E     the greatest value of E after all FRAMES frames
   least E    the smallest one
 E is a number (85), a byte of RAM (byte:8A; bcd:8A as two decimal digits; pair:8A with the next
@@ -65,9 +65,9 @@ stick's nine directions, and the same with fire. NAMES has a name and an address
 'x 85'. With --hold a choice is held for N frames, and FRAMES is a multiple of N.
 Standard output is a script for 'tas edit' that writes the best sequence into the movie: of those
 that are as good the first one, in the order of the choices. Standard error has the verdict, a line
-'best of all N sequences'. If there is no such sequence, it begins with 'none', and if more than
-STATES different states are reached by K choices, with 'stopped: more than STATES states in layer
-K': then there is no script, and --most with a greater number keeps more states, in more memory.
+'best of all N sequences'. Where no sequence does it, the line begins with 'none', and where K
+choices reach more than STATES different states, with 'stopped: more than STATES states in layer
+K'. Neither writes a script. --most with a greater number keeps more states, in more memory.
 
 Examples:
   examples/cart joystick > joystick.bin
