@@ -10,7 +10,7 @@ use std::process::Abort;
 use std::sync::Wait;
 use std::thread::Threads;
 use tas_program::{Folder, OrdinaryFile, Permit, Streams, run_program};
-use test_streams::{Failure, Room, Taker};
+use test_streams::{Failure, Giver, Room, Taker};
 
 /// `000=18A9028500A9008500AD80020AB002E6800AB002C68085024C00F0 FFC=00F0`: each frame but the first counts the byte at 80 up if the left stick
 /// is to the right, and down if it is to the left.
@@ -26,7 +26,7 @@ struct Place<'a> {
 }
 
 impl<'a> Folder for Place<'a> {
-    type File = &'a [u8];
+    type File = Giver<'a>;
 
     type Sink = Taker;
 
@@ -34,14 +34,15 @@ impl<'a> Folder for Place<'a> {
         None
     }
 
-    fn open(&self, name: &str) -> io::Result<&'a [u8]> {
-        match name {
-            "game.bin" => Ok(self.game),
-            "choices" => Ok(b"..... ..... .....\nR.... ..... .....\n.L... ..... .....\n"),
-            "names" => Ok(b"n 80\n"),
-            "wrong" => Ok(b"n 7F\n"),
-            _ => Err(Error::from(ErrorKind::NotFound)),
-        }
+    fn open(&self, name: &str) -> io::Result<Giver<'a>> {
+        let bytes: &'a [u8] = match name {
+            "game.bin" => self.game,
+            "choices" => b"..... ..... .....\nR.... ..... .....\n.L... ..... .....\n",
+            "names" => b"n 80\n",
+            "wrong" => b"n 7F\n",
+            _ => return Err(Error::from(ErrorKind::NotFound)),
+        };
+        Ok(Giver::new(bytes, usize::MAX, 0))
     }
 
     fn open_to_write(&self, _permit: Permit, _name: &str) -> io::Result<Taker> {
