@@ -18,7 +18,7 @@ use Rattle.tas_words.specs.declared.subcommands.Word.{Word}
 use Rattle.tas_words.specs.declared.subcommands.WordKind.{WordKind}
 use Rattle.tas_words.specs.declared.subcommands.WordKind.TheVariants.{File, OptionalFile, PairedFile, Flag, Output, Number, OptionalNumber, NumberFlag}
 use Rattle.tas_words.specs.declared.task.Task.{Task}
-use Rattle.tas_words.specs.Task.{HasWords, IsOptionalWord, most_traced, most_every}
+use Rattle.tas_words.specs.Task.{HasWords, IsOptionalWord, most_traced, most_every, most_line}
 
 -- what `tas --version` prints after the program's name: the program's version, and the number of the machine's profile
 abbrev pub version_text : Text
@@ -174,6 +174,7 @@ first_shapes =
 abbrev pub next_shapes : List Shape
 next_shapes =
     shape_with (codes "new") (cart_rule ∷ number_rule (codes "FRAMES") 0 most_inputs ∷ file_output_rule ∷ [])
+    ∷ shape_with (codes "recover") (cart_rule ∷ number_flag_rule (codes "LINE") (codes "until") 1 most_line ∷ file_output_rule ∷ [])
     ∷ shape_with (codes "search") (cart_rule ∷ frame_rule (codes "FROM") ∷ number_rule (codes "FRAMES") 0 most_inputs ∷ word_rule (codes "GOAL") None
     ∷ flag_rule (codes "CHOICES") (codes "choices") ∷ flag_rule (codes "NAMES") (codes "names")
     ∷ number_flag_rule (codes "N") (codes "hold") 1 most_inputs ∷ number_flag_rule (codes "STATES") (codes "most") 1 most_number ∷ [])

@@ -102,6 +102,8 @@ first_guides =
 abbrev pub next_guides : List Guide
 next_guides =
     guide (codes "new") (codes "tas new [OPTIONS] <CART> <FRAMES>") None (false ∷ true ∷ [])
+    ∷ guide (codes "recover") (codes "tas recover [OPTIONS] <CART> < JOURNAL")
+    (Some (codes "the journal is read from standard input: tas recover game.bin -o game.movie < game.journal")) (false ∷ [])
     ∷ guide (codes "search") (codes "tas search [OPTIONS] <CART> <FROM> <FRAMES> <GOAL> < MOVIE")
     (Some (codes "the movie is read from standard input: tas search game.bin 60 12 'reach byte:80 == 85' < game.movie")) (false ∷ true ∷ true ∷ false ∷ [])
     ∷ []

@@ -13,7 +13,7 @@ use Rattle.tas_words.specs.declared.task.SearchWords.{SearchWords}
 use Rattle.tas_words.specs.declared.task.Start.{Start}
 use Rattle.tas_words.specs.declared.task.Start.TheVariants.{Blank, Cart, Movie}
 use Rattle.tas_words.specs.declared.task.Task.{Task}
-use Rattle.tas_words.specs.declared.task.Task.TheVariants.{Trace, Check, Migrate, New, Search, Shot, Film, Export, Ram, Digest, Compare, Lag, Edit, Cut, Diff, Script, Talk, Desk}
+use Rattle.tas_words.specs.declared.task.Task.TheVariants.{Trace, Check, Migrate, New, Recover, Search, Shot, Film, Export, Ram, Digest, Compare, Lag, Edit, Cut, Diff, Script, Talk, Desk}
 
 -- the word of this name is this text
 abbrev pub IsWord : List Row → Text → Text → Type 0
@@ -68,6 +68,10 @@ IsNumberOr rows name most usual n = IsNumberWord rows name 1 most n ⊎ (HasNoWo
 -- how many frames a stretch of a digest has
 abbrev pub IsEvery : List Row → ℕ → Type 0
 IsEvery rows n = IsNumberOr rows (codes "EVERY") most_every default_every n
+
+-- the greatest number of a line of a journal
+abbrev pub most_line : ℕ
+most_line = 4294967295
 
 -- for how many frames a search holds a choice if the words don't say it, and how many states of a layer it keeps at most then
 abbrev pub default_hold : ℕ
@@ -125,6 +129,8 @@ HasWords name rows (Trace instructions) = (name ≡ codes "trace") × IsNumberWo
 HasWords name rows (Check cart) = (name ≡ codes "check") × IsWord rows (codes "CART") cart.now
 HasWords name rows (Migrate cart) = (name ≡ codes "migrate") × IsWord rows (codes "CART") cart.now
 HasWords name rows (New cart frames) = (name ≡ codes "new") × IsWord rows (codes "CART") cart.now × IsNumberWord rows (codes "FRAMES") 0 most_inputs frames
+HasWords name rows (Recover words) =
+    (name ≡ codes "recover") × IsWord rows (codes "CART") words.cart.now × IsOptionalNumberWord rows (codes "LINE") 1 most_line words.until
 HasWords name rows (Search words) = (name ≡ codes "search") × AreSearchWords rows words
 HasWords name rows (Shot cart k) = (name ≡ codes "shot") × IsWord rows (codes "CART") cart.now × IsFrameWord rows (codes "K") k
 HasWords name rows (Film cart from to) =

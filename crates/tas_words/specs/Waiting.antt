@@ -2,7 +2,7 @@
 use Rattle.std.specs.Prelude.{Option, Some, None, codes, option_and_then}
 use Rattle.clap.specs.Walk.{Text}
 use Rattle.tas_words.specs.declared.task.Task.{Task}
-use Rattle.tas_words.specs.declared.task.Task.TheVariants.{Trace, Check, Migrate, New, Search, Shot, Film, Export, Ram, Digest, Compare, Lag, Edit, Cut, Diff, Script, Talk, Desk}
+use Rattle.tas_words.specs.declared.task.Task.TheVariants.{Trace, Check, Migrate, New, Recover, Search, Shot, Film, Export, Ram, Digest, Compare, Lag, Edit, Cut, Diff, Script, Talk, Desk}
 use Rattle.tas_words.specs.Guides.{guide_named}
 
 -- the name of a task's command, where it reads standard input whole
@@ -11,6 +11,7 @@ whole_reader (Trace n) = Some (codes "trace")
 whole_reader (Check cart) = Some (codes "check")
 whole_reader (Migrate cart) = Some (codes "migrate")
 whole_reader (New cart frames) = None
+whole_reader (Recover words) = Some (codes "recover")
 whole_reader (Search words) = Some (codes "search")
 whole_reader (Shot cart k) = Some (codes "shot")
 whole_reader (Film cart from to) = Some (codes "film")

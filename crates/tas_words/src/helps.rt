@@ -50,6 +50,21 @@ Example:
   echo press 60 30 R...F ..... ..... > first.script
   ./tas edit joystick.bin first.script -o first.movie < first.movie";
 
+pub(crate) const RECOVER_HELP: &str = "\
+Standard input is a journal: a movie, and a line for each edit that was accepted after it. CART is
+the cartridge that it began with.
+Standard output is the text of the movie that the edits make. Standard error has the report, a line
+'recovered: N edits'. A journal may end inside a line, as after a crash: that line isn't an edit,
+and the report ends with '; a last line was cut'.
+The first line at fault ends the command with its number and nothing written. --until recovers what
+the lines before it make, as '--until 7' after 'fault: journal line 7: number'; the movie that the
+journal begins with must be whole. With -o FILE the movie replaces FILE once it and the report are
+written; FILE may not be the journal.
+
+Example:
+  examples/cart joystick > joystick.bin
+  ./tas recover joystick.bin -o recovered.movie < examples/joystick.journal";
+
 pub(crate) const SEARCH_HELP: &str = "\
 Standard input is the movie text, as for 'tas check'. An input is chosen for each of FRAMES frames
 from FROM on, and the best of all sequences of such choices is sought. GOAL says what is best:

@@ -7,10 +7,12 @@ ghost use Rattle.tas_words.specs.Guides.{first_guides, guide_of, has_its_words, 
 
 use crate::helps::{
     ANSWERS, CHECK_HELP, COMPARE_HELP, CUT_HELP, DESK_HELP, DIFF_HELP, DIGEST_HELP, EDIT_HELP,
-    EXPORT_HELP, FILM_HELP, LAG_HELP, LINES, MIGRATE_HELP, NEW_HELP, RAM_HELP, SCRIPT_HELP,
-    SEARCH_HELP, SHOT_HELP, TALK_HELP, TRACE_HELP,
+    EXPORT_HELP, FILM_HELP, LAG_HELP, LINES, MIGRATE_HELP, NEW_HELP, RAM_HELP, RECOVER_HELP,
+    SCRIPT_HELP, SEARCH_HELP, SHOT_HELP, TALK_HELP, TRACE_HELP,
 };
-use crate::{MAX_EVERY, MAX_FRAME_NUMBER, MAX_FRAMES, MAX_INSTRUCTIONS, MAX_STATES, MAX_WORKERS};
+use crate::{
+    MAX_EVERY, MAX_FRAME_NUMBER, MAX_FRAMES, MAX_INSTRUCTIONS, MAX_LINE, MAX_STATES, MAX_WORKERS,
+};
 
 /// What a word of a command is.
 #[derive(Clone, Copy)]
@@ -270,7 +272,7 @@ static FIRST_SUBCOMMANDS: [Subcommand; 10] = [
 ];
 
 /// Those after them.
-static NEXT_SUBCOMMANDS: [Subcommand; 2] = [
+static NEXT_SUBCOMMANDS: [Subcommand; 3] = [
     Subcommand {
         name: "new",
         usage: "tas new [OPTIONS] <CART> <FRAMES>",
@@ -285,6 +287,28 @@ static NEXT_SUBCOMMANDS: [Subcommand; 2] = [
                 kind: WordKind::Number {
                     least: 0,
                     most: MAX_FRAMES,
+                },
+            },
+            OUTPUT,
+        ],
+    },
+    Subcommand {
+        name: "recover",
+        usage: "tas recover [OPTIONS] <CART> < JOURNAL",
+        tip: Some(
+            "the journal is read from standard input: tas recover game.bin -o game.movie < game.journal",
+        ),
+        about: "Writes the text of the movie that a journal makes",
+        help: RECOVER_HELP,
+        words: &[
+            CARTRIDGE,
+            Word {
+                name: "LINE",
+                help: "Makes the edits of the lines before line LINE alone",
+                kind: WordKind::NumberFlag {
+                    flag: "until",
+                    least: 1,
+                    most: MAX_LINE,
                 },
             },
             OUTPUT,

@@ -33,6 +33,9 @@ pub const DEFAULT_STATES: u32 = 100_000;
 /// The default of N of a search: for how many frames a choice is held.
 pub const DEFAULT_HOLD: u32 = 1;
 
+/// The greatest number of a line of a journal that can be named.
+pub const MAX_LINE: u32 = u32::MAX;
+
 /// The names of a movie's two files.
 #[derive(Clone, Copy)]
 pub struct MovieFiles<'a> {
@@ -61,6 +64,15 @@ pub struct SearchWords<'a> {
     pub hold: usize,
     /// How many states of a layer are kept at most, 1 to [`MAX_STATES`].
     pub states: usize,
+}
+
+/// The words of a recovery.
+#[derive(Clone, Copy)]
+pub struct RecoveryWords<'a> {
+    /// The name of the file of the cartridge that the journal began with.
+    pub cart: &'a str,
+    /// The first line that is left out, counted from 1, up to [`MAX_LINE`]; none is if not given.
+    pub until: Option<u32>,
 }
 
 /// What a conversation starts from.
@@ -132,6 +144,8 @@ pub enum Task<'a> {
         /// How many frames it has, 0 to [`MAX_FRAMES`]; more count as so many.
         frames: usize,
     },
+    /// Write the text of the movie that the journal on standard input makes.
+    Recover(RecoveryWords<'a>),
     /// Search for the best inputs of some frames of the movie on standard input, and write the script that makes them.
     Search(SearchWords<'a>),
     /// Draw a frame of the movie on standard input.

@@ -14,6 +14,7 @@ fn whole_reader(task: Task<'_>) -> Option<&'static str>
         Task::Trace { .. } => Some("trace"),
         Task::Check { .. } => Some("check"),
         Task::Migrate { .. } => Some("migrate"),
+        Task::Recover(_) => Some("recover"),
         Task::Search(_) => Some("search"),
         Task::Shot { .. } => Some("shot"),
         Task::Film { .. } => Some("film"),

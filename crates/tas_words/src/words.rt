@@ -12,8 +12,8 @@ ghost use Rattle.tas_words.specs.CommandLine.{HasWordsOf, IsAsked, IsCommandLine
 use crate::command_line::command_line;
 use crate::{
     DEFAULT_EVERY, DEFAULT_HOLD, DEFAULT_STATES, MAX_EVERY, MAX_FRAME_NUMBER, MAX_FRAMES,
-    MAX_INSTRUCTIONS, MAX_STATES, MAX_WORKERS, MovieFiles, Order, Pair, Pairs, SearchWords, Start,
-    Task,
+    MAX_INSTRUCTIONS, MAX_LINE, MAX_STATES, MAX_WORKERS, MovieFiles, Order, Pair, Pairs,
+    RecoveryWords, SearchWords, Start, Task,
 };
 use clap::error::ErrorKind;
 use clap::{ArgMatches, Command, Error};
@@ -194,6 +194,10 @@ fn text_task<'a>(name: &str, words: &ArgMatches<'a>) -> Option<Task<'a>>
             cart: word_of(words, "CART")?,
             frames: frames_of(words)?,
         }),
+        "recover" => Some(Task::Recover(RecoveryWords {
+            cart: word_of(words, "CART")?,
+            until: optional_number_of(words, "LINE", 1, MAX_LINE)?,
+        })),
         "search" => search_task(words),
         "edit" => Some(Task::Edit {
             cart: word_of(words, "CART")?,
@@ -313,7 +317,7 @@ pub fn read_words<'a, A: Allocator>(
     // Refused: script_is_the_cartridges_file*, half_of_the_frame_is_asked*, film_starts_at_its_end*,
     // number_that_is_said_is_left_out*, every_is_600_whatever_is_said,
     // digest_is_of_single_frames_where_nothing_is_said*, second_movie_is_left_out*, names_file_is_the_choices_file,
-    // states_are_the_frames_of_a_choice, search_goes_one_frame_far*, files_of_a_script_are_swapped,
+    // states_are_the_frames_of_a_choice, line_of_until_is_left_out, search_goes_one_frame_far*, files_of_a_script_are_swapped,
     // conversation_over_a_movie_begins_without_it, movie_of_a_desk_is_its_cartridge, names_of_a_pair_are_swapped,
     // answers_without_lines_are_left_out, first_names_of_two_pairs_are_swapped, seventh_pair_is_read_twice.
     // A command's output replaces the file FILE exactly where the words name one after `-o` or `--output`.
