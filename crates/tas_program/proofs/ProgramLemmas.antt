@@ -17,13 +17,13 @@ use Rattle.tas_words.specs.declared.task.Task.{Task}
 use Rattle.tas_words.specs.Invocations.{AreGiven, IsInvocation, IsNoTask}
 use Rattle.tas_program.specs.Program.{IsAskedBy, end_status, OneFileRun, TwoFilesRun, FilesRun, EndsOver, OverOne, OverTwo, IsRunOfFiles, IsSaveRun, IsTaskRun, RunsAfter, TaskEnds}
 use Rattle.tas_program.specs.declared.status.TaskFault.{TaskFault}
-use Rattle.tas_program.specs.declared.status.TaskFault.TheVariants.{Word, Tool, Search as NotSearched, Verdict, Save as NotSaved}
+use Rattle.tas_program.specs.declared.status.TaskFault.TheVariants.{Word, Tool, Search as NotSearched, Recover as NotRecovered, Report, Save as NotSaved}
 use Rattle.tas_program.specs.declared.file_words.Permit.{Permit}
 use Rattle.tas_program.specs.declared.file_words.WordFault.{WordFault}
 use Rattle.tas_program.specs.FileWords.{WordsEnd, first_fault}
 use Rattle.tas_program.specs.OutputWords.{OutputEnds}
 use Rattle.tas_program.specs.Files.{FileBytes}
-use Rattle.tas_program.specs.Searching.{search_of}
+use Rattle.tas_program.specs.Reporting.{reported_of}
 use Rattle.tas_program.proofs.SearchLemmas.{no_save_fault}
 use Rattle.tas_program.specs.Saving.{FileSteps}
 use Rattle.tas_program.specs.Streams.{StreamBytes}
@@ -44,12 +44,13 @@ task_ends files chosen old new (Ok u) ran = ran
 task_ends files chosen old new (Err (Word fault)) ran = (fault, ran)
 task_ends files chosen old new (Err (Tool fault)) ran = (Tool fault, tt, ran)
 task_ends files chosen old new (Err (NotSearched e)) ran = (NotSearched e, tt, ran)
-task_ends files chosen old new (Err (Verdict fault)) ran = (Verdict fault, tt, ran)
+task_ends files chosen old new (Err (NotRecovered fault)) ran = (NotRecovered fault, tt, ran)
+task_ends files chosen old new (Err (Report fault)) ran = (Report fault, tt, ran)
 task_ends files chosen old new (Err (NotSaved fault)) (seen, are, ran) = absurd (go (first_fault seen) ran)
   where
     go : (word : Option WordFault) → RunsAfter files chosen word old new (Err (NotSaved fault)) → ⊥
     go (Some word) (is, same) = cc
-    go None ended = no_save_fault files (search_of chosen) chosen old new fault ended
+    go None ended = no_save_fault files (reported_of chosen) chosen old new fault ended
 
 -- a run ended over a file that was opened
 pub over_one : (ran : OneFileRun) (one file left : Option (List ℕ)) (old new : StreamBytes) (end : Result (Unit {0}) ToolFault) → file ≡ one

@@ -2,6 +2,8 @@ pub mod Streams
 pub mod FileWords
 pub mod Files
 pub mod Searching
+pub mod Recovering
+pub mod Reporting
 pub mod Program
 pub mod Waiting
 pub mod Saving

@@ -1,7 +1,7 @@
 -- Which of the words that name files the file of an output may not stand for, and when it may not have bytes.
 use Rattle.std.specs.Prelude.{◌≡◌, ℕ, Bool, true, false, ◌&&◌, nat_lt, codes, List, [], ◌∷◌, All, map, Option, Some, None, option_map, Result}
 use Rattle.tas_words.specs.declared.task.Task.{Task}
-use Rattle.tas_words.specs.declared.task.Task.TheVariants.{Migrate, New, Edit, Cut, Diff, Talk}
+use Rattle.tas_words.specs.declared.task.Task.TheVariants.{Migrate, New, Recover, Edit, Cut, Diff, Talk}
 use Rattle.tas_words.specs.declared.task.Start.TheVariants.{Blank, Cart}
 use Rattle.tas_program.specs.declared.folder.OrdinaryFile.{OrdinaryFile}
 use Rattle.tas_program.specs.declared.file_words.FileWord.{FileWord}
@@ -15,6 +15,7 @@ use Rattle.tas_program.specs.FileWords.{AreSeen, IsSeen, cart_name, fault_by, fa
 abbrev pub cart_input : Task → Option (List ℕ)
 cart_input (Migrate cart) = Some cart.now
 cart_input (New cart frames) = Some cart.now
+cart_input (Recover words) = Some words.cart.now
 cart_input (Cut cart from to) = Some cart.now
 cart_input (Edit cart script other) = Some cart.now
 cart_input (Diff cart old) = Some cart.now
@@ -33,9 +34,11 @@ abbrev pub old_input : Task → Option (List ℕ)
 old_input (Diff cart old) = Some old.now
 old_input chosen = None
 
--- the same of standard input, which a diff reads as the newer movie, and a conversation as its lines: neither may be replaced
+-- the same of standard input, which a diff reads as the newer movie, a recovery as the journal, and a conversation as its lines: none may be
+-- replaced
 abbrev pub stream_input : Task → Option (List ℕ)
 stream_input (Diff cart old) = Some (codes "/dev/stdin")
+stream_input (Recover words) = Some (codes "/dev/stdin")
 stream_input (Talk start) = Some (codes "/dev/stdin")
 stream_input chosen = None
 

@@ -41,13 +41,13 @@ use Rattle.tas_words.specs.declared.invocation.Invocation.TheVariants.{Do, Save,
 use Rattle.tas_program.specs.declared.status.Status.{Status}
 use Rattle.tas_program.specs.declared.status.Status.TheVariants.{Done, Fault, Misuse}
 use Rattle.tas_words.specs.declared.task.Task.{Task}
-use Rattle.tas_words.specs.declared.task.Task.TheVariants.{Trace, Check, Migrate, New, Search, Shot, Film, Export, Ram, Digest, Compare, Lag, Edit, Cut, Diff, Script, Talk, Desk}
+use Rattle.tas_words.specs.declared.task.Task.TheVariants.{Trace, Check, Migrate, New, Recover, Search, Shot, Film, Export, Ram, Digest, Compare, Lag, Edit, Cut, Diff, Script, Talk, Desk}
 use Rattle.tas_words.specs.declared.task.Start.{Start}
 use Rattle.tas_words.specs.declared.task.Start.TheVariants.{Blank, Cart, Movie}
 use Rattle.clap.specs.Walk.{Text}
 use Rattle.tas_words.specs.Invocations.{AreGiven, IsInvocation}
 use Rattle.tas_program.specs.declared.status.TaskFault.{TaskFault}
-use Rattle.tas_program.specs.declared.status.TaskFault.TheVariants.{Word, Tool, Search as NotSearched, Verdict, Save as NotSaved}
+use Rattle.tas_program.specs.declared.status.TaskFault.TheVariants.{Word, Tool, Search as NotSearched, Recover as NotRecovered, Report, Save as NotSaved}
 use Rattle.tas_program.specs.declared.file_words.WordFault.{WordFault}
 use Rattle.tas_program.specs.declared.file_words.SeenWord.{SeenWord}
 use Rattle.tas_program.specs.declared.saving.SaveFault.{SaveFault}
@@ -56,10 +56,12 @@ use Rattle.tas_program.specs.FileWords.{AreSeen, IsSeen, fault_or, first_fault}
 use Rattle.tas_program.specs.OutputWords.{AreInputsSeen, output_fault}
 use Rattle.tas_program.specs.Saving.{Files, FileSteps, SaveEnds}
 use Rattle.tas_program.specs.Files.{FileBytes}
-use Rattle.tas_program.specs.Searching.{SearchEnds, search_of}
+use Rattle.tas_program.specs.Reporting.{ReportedEnds, reported_of}
+use Rattle.tas_program.specs.declared.searching.Reported.{Reported}
+use Rattle.tas_journal.specs.declared.fault.RecoveryFault.{RecoveryFault}
+use Rattle.tas_journal.specs.declared.fault.RecoveryFault.TheVariants as recovery
 use Rattle.tas_search.specs.declared.search_error.SearchError.{SearchError}
 use Rattle.tas_search.specs.declared.search_error.SearchError.TheVariants as error
-use Rattle.tas_words.specs.declared.task.SearchWords.{SearchWords}
 use Rattle.tas_program.specs.Streams.{StreamBytes}
 
 -- the number that is reported to the system
@@ -74,7 +76,8 @@ end_status (Ok _) = Done
 end_status (Err (Word fault)) = Misuse
 end_status (Err (Tool fault)) = Fault
 end_status (Err (NotSearched e)) = Fault
-end_status (Err (Verdict fault)) = Fault
+end_status (Err (NotRecovered fault)) = Fault
+end_status (Err (Report fault)) = Fault
 end_status (Err (NotSaved fault)) = Fault
 
 -- what runs over files and the streams: what the files have and what is left of them, and the bytes of the input and of the output, before and after
@@ -118,12 +121,13 @@ ends_of files pairs = map (ends_by files) (pairs_in pairs)
 abbrev pub IsDeskTask : List DoorEnds → TwoFilesRun
 IsDeskTask ends cart cart' movie movie' input input' output output' end = (input' ≡ input) × IsDeskRun GlobalType end_facts ends ends cart cart' movie movie' output output' end
 
--- a task that is no search ends as the definition of its command says, over its files and the streams
+-- a task that reports nothing ends as the definition of its command says, over its files and the streams
 abbrev pub DoesTask : FileBytes → Task → StreamBytes → StreamBytes → Result (Unit {0}) ToolFault → Type 0
 DoesTask files (Trace n) old new end = EndsOver [] (IsRun (OfOne (λ image. IsTraceAnswer image n))) old new end
 DoesTask files (Check cart) old new end = EndsOver (files.read cart.now ∷ []) (IsRun (OfTwo IsCheckAnswer)) old new end
 DoesTask files (Migrate cart) old new end = EndsOver (files.read cart.now ∷ []) (IsRun (OfTwo IsMigrateAnswer)) old new end
 DoesTask files (New cart frames) old new end = EndsOver (files.read cart.now ∷ []) (IsRunOfFiles (OfOne (IsNewAnswer (min frames most_inputs)))) old new end
+DoesTask files (Recover words) old new end = ⊥
 DoesTask files (Search words) old new end = ⊥
 DoesTask files (Shot cart k) old new end = EndsOver (files.read cart.now ∷ []) (IsRun (OfTwo (IsShotAnswer k))) old new end
 DoesTask files (Film cart from to) old new end = EndsOver (files.read cart.now ∷ []) (OverOne (IsFilmRun from to)) old new end
@@ -149,16 +153,16 @@ abbrev pub tool_end : Result (Unit {0}) ToolFault → Result (Unit {0}) TaskFaul
 tool_end (Ok u) = Ok u
 tool_end (Err fault) = Err (Tool fault)
 
--- the engine of a task was run: that of a search, which reports to some writer, of which nothing is said here; or that of another task
-abbrev pub EngineEnds : FileBytes → Option SearchWords → Task → StreamBytes → StreamBytes → Result (Unit {0}) TaskFault → Type 0
-EngineEnds files (Some words) chosen old new end = (told told' : Option (List ℕ)) × SearchEnds files words old new told told' end
+-- the engine of a task was run: that of a search or a recovery, which reports to some writer, of which nothing is said here; or that of another task
+abbrev pub EngineEnds : FileBytes → Option Reported → Task → StreamBytes → StreamBytes → Result (Unit {0}) TaskFault → Type 0
+EngineEnds files (Some words) chosen old new end = (told told' : Option (List ℕ)) × ReportedEnds files words old new told told' end
 EngineEnds files None chosen old new end = (done : Result (Unit {0}) ToolFault) × (end ≡ tool_end done) × DoesTask files chosen old new done
 
 -- what is done after the words were looked at: where one is at fault, the task ends with that, and no stream is read or written; else its
 -- engine is run
 abbrev pub RunsAfter : FileBytes → Task → Option WordFault → StreamBytes → StreamBytes → Result (Unit {0}) TaskFault → Type 0
 RunsAfter files chosen (Some fault) old new end = (end ≡ Err (Word fault)) × (new ≡ old)
-RunsAfter files chosen None old new end = EngineEnds files (search_of chosen) chosen old new end
+RunsAfter files chosen None old new end = EngineEnds files (reported_of chosen) chosen old new end
 
 -- a task is run: its words are seen as the folder shows their files, and the first one at fault decides
 abbrev pub IsTaskRun : FileBytes → Task → StreamBytes → StreamBytes → Result (Unit {0}) TaskFault → Type 0
@@ -174,10 +178,16 @@ abbrev pub held_error : SearchError → SearchError
 held_error (error.Run (Write written)) = error.Memory
 held_error e = e
 
+-- the same of a recovery
+abbrev pub held_recovery : RecoveryFault → RecoveryFault
+held_recovery (recovery.Run (Write written)) = recovery.Run Memory
+held_recovery fault = fault
+
 -- the same of any task
 abbrev pub held : TaskFault → TaskFault
 held (Tool fault) = Tool (held_fault fault)
 held (NotSearched e) = NotSearched (held_error e)
+held (NotRecovered fault) = NotRecovered (held_recovery fault)
 held fault = fault
 
 -- the end of a task whose output was to replace a file
@@ -194,7 +204,7 @@ SavedAfter steps (Err fault) name text files files' end = (end ≡ Err (held fau
 pub record SavesTask (steps : FileSteps) (read : FileBytes) (chosen : Task) (name : List ℕ) (old new : StreamBytes) (files files' : Option Files) (end : Result (Unit {0}) TaskFault) : Type 0 where
   pub done : Result (Unit {0}) TaskFault
   pub text : List ℕ
-  pub does : EngineEnds read (search_of chosen) chosen (record { input = old.input; output = Some [] }) (record { input = new.input; output = Some text }) done
+  pub does : EngineEnds read (reported_of chosen) chosen (record { input = old.input; output = Some [] }) (record { input = new.input; output = Some text }) done
   pub silent : new.output ≡ old.output
   pub saved : SavedAfter steps done name text files files' end
 
@@ -257,7 +267,8 @@ IsSaveRun steps read chosen name old new end =
 abbrev pub IsEngineFault : TaskFault → Type 0
 IsEngineFault (Tool fault) = Unit {0}
 IsEngineFault (NotSearched e) = Unit {0}
-IsEngineFault (Verdict fault) = Unit {0}
+IsEngineFault (NotRecovered fault) = Unit {0}
+IsEngineFault (Report fault) = Unit {0}
 IsEngineFault _ = ⊥
 
 -- the program's end after a task: done where the task is, else a fault of its engine or of a word

@@ -10,17 +10,10 @@ use Rattle.tas_search.specs.declared.search_error.SearchError.{SearchError}
 use Rattle.tas_search.specs.declared.search_request.Search.{Search as Asked}
 use Rattle.tas_search.specs.SearchRun.{IsSearchRun}
 use Rattle.tas_words.specs.declared.task.SearchWords.{SearchWords}
-use Rattle.tas_words.specs.declared.task.Task.{Task}
-use Rattle.tas_words.specs.declared.task.Task.TheVariants.{Search}
 use Rattle.tas_program.specs.declared.status.TaskFault.{TaskFault}
-use Rattle.tas_program.specs.declared.status.TaskFault.TheVariants.{Tool, Search as NotSearched, Verdict}
+use Rattle.tas_program.specs.declared.status.TaskFault.TheVariants.{Tool, Search as NotSearched, Report}
 use Rattle.tas_program.specs.Files.{FileBytes}
 use Rattle.tas_program.specs.Streams.{StreamBytes}
-
--- the words of a task that is a search
-abbrev pub search_of : Task → Option SearchWords
-search_of (Search words) = Some words
-search_of chosen = None
 
 -- the bytes of a file that may be named
 abbrev pub named_file : FileBytes → Option (Bor (List ℕ)) → List (Option (List ℕ))
@@ -66,9 +59,9 @@ abbrev pub Searches : FileBytes → SearchWords → StreamBytes → StreamBytes 
 Searches files words old new end =
     (CannotOpen end × (new ≡ old)) ⊎ ((left : List (Option (List ℕ))) × SearchesOver words (search_files files words) left old.input new.input old.output new.output end)
 
--- what is reported: the report, whole; or its first bytes, where a write failed, and this is the fault; or nothing, where the search ended with one
+-- what is reported: the report, whole; or its first bytes, where a write failed, and this is the fault; or nothing, where the engine ended with one
 abbrev pub Reports : Result (List ℕ) TaskFault → (told told' : Option (List ℕ)) → Result (Unit {0}) TaskFault → Type 0
-Reports (Ok report) told told' end = ((end ≡ Ok tt) × Appends told told' report) ⊎ ((fault : RunFault) × (end ≡ Err (Verdict fault)) × StopsWriting told told' report fault)
+Reports (Ok report) told told' end = ((end ≡ Ok tt) × Appends told told' report) ⊎ ((fault : RunFault) × (end ≡ Err (Report fault)) × StopsWriting told told' report fault)
 Reports (Err fault) told told' end = (end ≡ Err fault) × Keeps told told'
 
 -- a search ends, and its report is written to standard error, which held some bytes before and holds some afterwards

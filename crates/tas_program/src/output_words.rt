@@ -22,6 +22,7 @@ fn cart_of<'a>(task: Task<'a>) -> Option<&'a str>
     match task {
         Task::Migrate { cart } => Some(cart),
         Task::New { cart, frames: _ } => Some(cart),
+        Task::Recover(words) => Some(words.cart),
         Task::Cut { cart, .. } => Some(cart),
         Task::Edit { cart, .. } => Some(cart),
         Task::Diff { cart, old: _ } => Some(cart),
@@ -65,7 +66,7 @@ fn stream_of(task: Task<'_>) -> Option<&'static str>
     ensures { option_map (λ name. name.now) result ≡ stream_input task.entry }
 {
     match task {
-        Task::Diff { .. } | Task::Talk(_) => Some("/dev/stdin"),
+        Task::Diff { .. } | Task::Recover(_) | Task::Talk(_) => Some("/dev/stdin"),
         _ => None,
     }
 }
@@ -151,14 +152,16 @@ fn output_fault(task: Task<'_>, inputs: &[SeenWord], file: SeenWord) -> Option<W
 
 /// Looks at the files that a task's words name, before any is opened: first as [`check_words`] does for a task whose output replaces no
 /// file. Then it is an error where the file that the output replaces is the ordinary file of another word, or for [`Task::New`] an ordinary
-/// file with bytes. Standard input may be this file, since it is read whole before, but not for [`Task::Diff`]. For [`Task::Talk`] the file
+/// file with bytes. Standard input may be this file, since it is read whole before, but not for [`Task::Diff`] and [`Task::Recover`]. For
+/// [`Task::Talk`] the file
 /// may be the movie's, but not that of standard input or output, and it may have bytes only where the conversation starts from a movie.
 pub fn check_output<F: Folder>(folder: &F, task: Task<'_>, file: &str) -> Result<Permit, WordFault>
     // Where a word of the task is at fault, the task ends with this fault, and no stream is read or written. So it does where
-    // the file is the ordinary file of CART, SCRIPT, OTHER or OLD, or for `diff` that of standard input, for `talk` that of
-    // standard input or output, or for `new`, and for `talk` without MOVIE, has bytes, by what the folder showed. Else it is
+    // the file is the ordinary file of CART, SCRIPT, OTHER or OLD, or for `diff` and `recover` that of standard input, for `talk`
+    // that of standard input or output, or for `new`, and for `talk` without MOVIE, has bytes, by what the folder showed. Else it is
     // saved.
     // Refused: answers_may_be_replaced, movie_begun_in_a_conversation_may_replace_one, script_may_be_replaced, output_may_replace_any_file, script_may_replace_the_newer_movie,
+    // movie_may_replace_its_journal,
     // blank_movie_may_replace_a_movie, words_at_fault_are_saved.
     ensures { OutputEnds (F.shown folder.now) task.entry file.now result }
 {

@@ -13,7 +13,7 @@ ghost use Rattle.tas_engines.specs.Output.{StopsWriting};
 ghost use Rattle.tas_words.specs.declared.task.Task.TheVariants.{Desk, Edit, Script, Talk};
 ghost use Rattle.tas_program.specs.Files.{files_by};
 ghost use Rattle.tas_program.specs.Program.{EndsOver, DoesTask, IsTaskRun, CarriesOut, ProgramEnds, end_status, tool_end};
-ghost use Rattle.tas_program.specs.Searching.{search_of};
+ghost use Rattle.tas_program.specs.Reporting.{reported_of};
 
 use crate::pipes::pipes_of;
 use crate::saved_talks::hold_talk;
@@ -181,8 +181,8 @@ fn run_desk<T: Wait + Threads + Sync, F: Folder + Sync, W: Write>(
     desk_run(rt, alloc, &mut cart, &mut movie, &mut doors, output)
 }
 
-/// Does a task that is no search by its engine, over the two streams that engines know. `Task::Desk` takes its memory from `global`, each
-/// other task from `alloc`.
+/// Does a task that reports nothing by its engine, over the two streams that engines know. `Task::Desk` takes its memory from `global`,
+/// each other task from `alloc`.
 pub(crate) fn run_engine<
     T: Wait + Threads + Sync,
     A: Allocator + Copy + Send + Sync,
@@ -199,7 +199,7 @@ pub(crate) fn run_engine<
     input: &mut R,
     output: &mut W,
 ) -> Result<(), ToolFault>
-    requires { search_of task ≡ None }
+    requires { reported_of task ≡ None }
     ensures { DoesTask (files_by (F.bytes_of folder.now) (F.held_by folder.now) (F.shown folder.now))
         task.entry
         (record { input = R.remaining input.old; output = W.contents output.old })
@@ -220,6 +220,7 @@ pub(crate) fn run_engine<
             let command = Whole(commands::New { frames });
             run_over(alloc, &command, &[], folder, &mut cart, output)
         }
+        Task::Recover(_) => unreachable!(),
         Task::Search(_) => unreachable!(),
         Task::Shot { cart, frame } => {
             let command = commands::Shot { frame };
@@ -303,7 +304,8 @@ pub fn run_task<
     streams: &mut Streams<R, W, E>,
 ) -> Result<(), TaskFault>
     // A command is done by its engine, over its files and standard input, with its own numbers, but for an export's
-    // WORKERS, on which no answer depends. That the verdict of a search is written is a clause of `run_search` alone.
+    // WORKERS, on which no answer depends. That the verdict of a search is written is a clause of `run_search` alone,
+    // and that the report of a recovery is one of `run_recovery`.
     // Refused: check_draws_the_first_frame*, each_file_is_the_first, migration_is_answered_as_check*,
     // talk_is_run_as_a_script*, shot_of_the_frame_before, script_and_cartridge_are_swapped*,
     // movie_and_cartridge_of_a_script_are_swapped*, film_starts_at_its_end, ram_ends_before_its_last_line*,
@@ -371,7 +373,8 @@ fn report<A: Allocator, E: Write>(alloc: A, errors: &mut E, end: Result<(), Task
                 TaskFault::Word(_) => Status::Misuse,
                 TaskFault::Tool(_) => Status::Fault,
                 TaskFault::Search(_) => Status::Fault,
-                TaskFault::Verdict(_) => Status::Fault,
+                TaskFault::Recover(_) => Status::Fault,
+                TaskFault::Report(_) => Status::Fault,
                 TaskFault::Save(_) => Status::Fault,
             }
         }
@@ -409,7 +412,8 @@ pub fn carry_out<
     // after a fault, and with 2, nothing read and nothing written to standard output, where a word is at fault or the
     // words aren't understood. Where the output replaces a file, the end is 0 only where the engine is done and the file was
     // given the output, or the movie that a conversation leaves, as the folder states its steps.
-    // Refused: fault_ends_with_status_0, search_without_an_answer_ends_with_status_0*, program_saves_under_another_name,
+    // Refused: fault_ends_with_status_0, search_without_an_answer_ends_with_status_0*,
+    // recovery_without_an_answer_ends_with_status_0*, program_saves_under_another_name,
     // word_at_fault_ends_with_status_1, misuse_ends_with_status_1*, misuse_is_shown_as_help*.
     ensures { CarriesOut F.steps
         (files_by (F.bytes_of folder.now) (F.held_by folder.now) (F.shown folder.now))
@@ -440,9 +444,9 @@ pub fn carry_out<
     }
 }
 
-/// The whole program: reads the words, the first of which is its name, and does what they ask for. clap, `Task::Search` and `Task::Desk` take
-/// their memory from `global` alone, all else from `alloc`. Somebody at a terminal is told what a task waits for ([`tell_waiting`]), once no word
-/// of it is at fault.
+/// The whole program: reads the words, the first of which is its name, and does what they ask for. clap, `Task::Search`, `Task::Recover` and
+/// `Task::Desk` take their memory from `global` alone, all else from `alloc`. Somebody at a terminal is told what a task waits for
+/// ([`tell_waiting`]), once no word of it is at fault.
 pub fn run_program<
     T: Wait + Threads + Sync,
     A: Allocator + Copy + Send + Sync,

@@ -2,7 +2,7 @@
 
 ghost use Rattle.std.specs.Prelude.{◌≡◌};
 ghost use Rattle.tas_program.specs.Files.{files_by};
-ghost use Rattle.tas_program.specs.Program.{IsSaveRun, SavesTask, held, held_error, held_fault, saved_end};
+ghost use Rattle.tas_program.specs.Program.{IsSaveRun, SavesTask, held, held_error, held_fault, held_recovery, saved_end};
 
 use crate::directory::Names;
 use crate::saved_talks::talk_of;
@@ -15,6 +15,7 @@ use std::alloc::{Allocator, Global};
 use std::io::{Read, Write};
 use std::sync::Wait;
 use std::thread::Threads;
+use tas_journal::RecoveryFault;
 use tas_search::SearchError;
 use tas_tool::{RunFault, ToolFault};
 use tas_words::Task;
@@ -39,6 +40,16 @@ fn held_error(error: SearchError) -> SearchError
     }
 }
 
+/// The same of a recovery.
+fn held_recovery(fault: RecoveryFault) -> RecoveryFault
+    ensures { result ≡ held_recovery fault }
+{
+    match fault {
+        RecoveryFault::Run(RunFault::Write { written: _ }) => RecoveryFault::Run(RunFault::Memory),
+        fault => fault,
+    }
+}
+
 /// The same of any task.
 fn held(fault: TaskFault) -> TaskFault
     ensures { result ≡ held fault }
@@ -46,6 +57,7 @@ fn held(fault: TaskFault) -> TaskFault
     match fault {
         TaskFault::Tool(fault) => TaskFault::Tool(held_fault(fault)),
         TaskFault::Search(error) => TaskFault::Search(held_error(error)),
+        TaskFault::Recover(fault) => TaskFault::Recover(held_recovery(fault)),
         fault => fault,
     }
 }

@@ -1,4 +1,4 @@
-//! Searches, and tasks of which some are searches.
+//! Searches, and the tasks that report to standard error as they do.
 //!
 //! A search's answer has two parts: the script goes to standard output, so that it can go on to a file or to `tas edit`, and the verdict
 //! to standard error, where somebody sees it beside. It alone says of which sequences the script is the best. So a search whose
@@ -7,8 +7,10 @@
 ghost use Rattle.std.specs.Prelude.{◌≡◌, ◌⊎◌, map, IfOk, IfErr};
 ghost use Rattle.tas_program.specs.Files.{files_by};
 ghost use Rattle.tas_program.specs.Program.{EngineEnds};
-ghost use Rattle.tas_program.specs.Searching.{IsAskedFor, Reports, SearchEnds, Searches, SearchesOver, bytes_end, search_files, search_of};
+ghost use Rattle.tas_program.specs.Reporting.{ReportedEnds, reported_of};
+ghost use Rattle.tas_program.specs.Searching.{IsAskedFor, Reports, SearchEnds, Searches, SearchesOver, bytes_end, search_files};
 
+use crate::recovering::run_recovery;
 use crate::running::{ended, open_all, run_engine};
 use crate::{Folder, Permit, TaskFault};
 use std::alloc::{Allocator, Global};
@@ -17,14 +19,24 @@ use std::sync::Wait;
 use std::thread::Threads;
 use tas_search::{Search, search_run};
 use tas_tool::{ReadFault, ToolFault, write_all};
-use tas_words::{SearchWords, Task};
+use tas_words::{RecoveryWords, SearchWords, Task};
 
-/// The words of a task that is a search.
-fn search_of<'a>(task: Task<'a>) -> Option<SearchWords<'a>>
-    ensures { result ≡ search_of task.entry }
+/// The words of a task that reports to standard error beside its output.
+#[derive(Clone, Copy)]
+pub(crate) enum Reported<'a> {
+    /// A search, which reports its verdict.
+    Search(SearchWords<'a>),
+    /// A recovery, which reports how many edits were made.
+    Recovery(RecoveryWords<'a>),
+}
+
+/// The words of a task that reports.
+fn reported_of<'a>(task: Task<'a>) -> Option<Reported<'a>>
+    ensures { result ≡ reported_of task.entry }
 {
     match task {
-        Task::Search(words) => Some(words),
+        Task::Search(words) => Some(Reported::Search(words)),
+        Task::Recover(words) => Some(Reported::Recovery(words)),
         _ => None,
     }
 }
@@ -108,15 +120,18 @@ fn report_of<F: Folder, R: Read, W: Write>(
     }
 }
 
-/// Writes the report of a search, where there is one.
-fn write_report<E: Write>(done: Result<Vec<u8>, TaskFault>, errors: &mut E) -> Result<(), TaskFault>
+/// Writes a report, where there is one.
+pub(crate) fn write_report<E: Write>(
+    done: Result<Vec<u8>, TaskFault>,
+    errors: &mut E,
+) -> Result<(), TaskFault>
     ensures { Reports (bytes_end (λ report. report.items) done) (E.contents errors.old)
         (E.contents errors.new) result }
 {
     match done {
         Err(fault) => Err(fault),
         Ok(report) => match write_all(errors, report.as_slice()) {
-            Err(fault) => Err(TaskFault::Verdict(fault)),
+            Err(fault) => Err(TaskFault::Report(fault)),
             Ok(()) => Ok(()),
         },
     }
@@ -125,7 +140,7 @@ fn write_report<E: Write>(done: Result<Vec<u8>, TaskFault>, errors: &mut E) -> R
 /// Does a search: opens its files, reads them and the input, writes the script that makes the best inputs to the output, and then the
 /// verdict, a line, to `errors`.
 ///
-/// Faults: `Tool` where a file can't be opened, `Search` of the search, and then nothing is written to `errors`; `Verdict` where the verdict isn't
+/// Faults: `Tool` where a file can't be opened, `Search` of the search, and then nothing is written to `errors`; `Report` where the verdict isn't
 /// written whole, and then the script is.
 pub fn run_search<F: Folder, R: Read, W: Write, E: Write>(
     alloc: Global,
@@ -149,8 +164,29 @@ pub fn run_search<F: Folder, R: Read, W: Write, E: Write>(
     write_report(done, errors)
 }
 
-/// Does a task by its engine, over the input and the output; the verdict of a search goes to `errors`. `Task::Search` and `Task::Desk` take
-/// their memory from `global`, each other task from `alloc`.
+/// Does a task that reports, as [`run_search`] and [`run_recovery`] do.
+fn run_reported<F: Folder, R: Read, W: Write, E: Write>(
+    alloc: Global,
+    words: Reported<'_>,
+    folder: &F,
+    input: &mut R,
+    output: &mut W,
+    errors: &mut E,
+) -> Result<(), TaskFault>
+    ensures { ReportedEnds
+        (files_by (F.bytes_of folder.now) (F.held_by folder.now) (F.shown folder.now)) words.entry
+        (record { input = R.remaining input.old; output = W.contents output.old })
+        (record { input = R.remaining input.new; output = W.contents output.new })
+        (E.contents errors.old) (E.contents errors.new) result }
+{
+    match words {
+        Reported::Search(words) => run_search(alloc, words, folder, input, output, errors),
+        Reported::Recovery(words) => run_recovery(alloc, words, folder, input, output, errors),
+    }
+}
+
+/// Does a task by its engine, over the input and the output; the report of a search or a recovery goes to `errors`. These two and
+/// `Task::Desk` take their memory from `global`, each other task from `alloc`.
 pub(crate) fn do_task<
     T: Wait + Threads + Sync,
     A: Allocator + Copy + Send + Sync,
@@ -170,12 +206,12 @@ pub(crate) fn do_task<
     errors: &mut E,
 ) -> Result<(), TaskFault>
     ensures { EngineEnds (files_by (F.bytes_of folder.now) (F.held_by folder.now) (F.shown folder.now))
-        (search_of task.entry) task.entry
+        (reported_of task.entry) task.entry
         (record { input = R.remaining input.old; output = W.contents output.old })
         (record { input = R.remaining input.new; output = W.contents output.new }) result }
 {
-    match search_of(task) {
-        Some(words) => run_search(global, words, folder, input, output, errors),
+    match reported_of(task) {
+        Some(words) => run_reported(global, words, folder, input, output, errors),
         None => {
             let end = run_engine(rt, global, alloc, task, permit, folder, input, output);
             ended(end)

@@ -4,6 +4,7 @@ ghost use Rattle.std.specs.Prelude.{◌≡◌};
 ghost use Rattle.tas_program.specs.Program.{status_code};
 
 use crate::{SaveFault, WordFault};
+use tas_journal::RecoveryFault;
 use tas_search::SearchError;
 use tas_tool::{RunFault, ToolFault};
 use thiserror::Error;
@@ -20,9 +21,13 @@ pub enum TaskFault {
     /// It is a search, and has no answer: the status is 1.
     #[error("{0}")]
     Search(SearchError),
-    /// It is a search, whose script is written, but of whose verdict only the first bytes are: the status is 1.
-    #[error("fault: verdict: {0}")]
-    Verdict(RunFault),
+    /// It is a recovery, and nothing was recovered: the status is 1.
+    #[error("{0}")]
+    Recover(RecoveryFault),
+    /// Its output is written, but of its report, as of a search's verdict, only the first bytes are: the status is 1. With `Memory` it is a
+    /// recovery, and no byte of the report is.
+    #[error("fault: report: {0}")]
+    Report(RunFault),
     /// Its engine is done, but its output didn't replace the file: the status is 1.
     #[error("{0}")]
     Save(SaveFault),

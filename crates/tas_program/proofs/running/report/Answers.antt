@@ -9,5 +9,8 @@ returns-in-Tool g c = rw (c.in-Err.is, c.in-Tool.is)
 pub returns-in-Search : goal.returns-in-Search
 returns-in-Search g c = rw (c.in-Err.is, c.in-Search.is)
 
-pub returns-in-Verdict : goal.returns-in-Verdict
-returns-in-Verdict g c = rw (c.in-Err.is, c.in-Verdict.is)
+pub returns-in-Recover : goal.returns-in-Recover
+returns-in-Recover g c = rw (c.in-Err.is, c.in-Recover.is)
+
+pub returns-in-Report : goal.returns-in-Report
+returns-in-Report g c = rw (c.in-Err.is, c.in-Report.is)

@@ -5,7 +5,8 @@ use Rattle.tas_engines.specs.Movies.{IsMovieRun}
 use Rattle.tas_engines.specs.Starting.{IsNewAnswer}
 use Rattle.tas_tool.specs.Films.{IsFilmRun}
 use Rattle.tas_tool.specs.Pixmaps.{IsExportAnswer}
-use Rattle.tas_program.specs.Searching.{search_of}
+use Rattle.tas_program.specs.Reporting.{reported_of}
+use Rattle.tas_program.specs.declared.searching.Reported.TheVariants as reported
 use Rattle.tas_program.proofs.ProgramLemmas.{over_alone, over_one}
 use Rattle.tas_program.proofs.running.run_engine.Goals as goal
 
@@ -16,7 +17,7 @@ returns-in_ok-cart-in-New g c =
 
 pub unreachable-requires : goal.unreachable-requires
 unreachable-requires g c =
-    let search : Some c.in-Search.field-0 ≡ None = sym (ap search_of c.in-Search.is) ∙ c.requires in
+    let recovery : Some (reported.Recovery c.in-Recover.field-0) ≡ None = sym (ap reported_of c.in-Recover.is) ∙ c.requires in
     cc
 
 pub returns-in_ok-open-in-Film : goal.returns-in_ok-open-in-Film

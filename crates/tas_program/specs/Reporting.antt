@@ -1,0 +1,22 @@
+-- The tasks that report to standard error beside their output.
+use Rattle.std.specs.Prelude.{ℕ, List, Option, Some, None, Result}
+use Rattle.tas_words.specs.declared.task.Task.{Task}
+use Rattle.tas_words.specs.declared.task.Task.TheVariants.{Recover, Search}
+use Rattle.tas_program.specs.declared.searching.Reported.{Reported}
+use Rattle.tas_program.specs.declared.searching.Reported.TheVariants as reported
+use Rattle.tas_program.specs.declared.status.TaskFault.{TaskFault}
+use Rattle.tas_program.specs.Files.{FileBytes}
+use Rattle.tas_program.specs.Recovering.{RecoveryEnds}
+use Rattle.tas_program.specs.Searching.{SearchEnds}
+use Rattle.tas_program.specs.Streams.{StreamBytes}
+
+-- the words of a task that reports
+abbrev pub reported_of : Task → Option Reported
+reported_of (Search words) = Some (reported.Search words)
+reported_of (Recover words) = Some (reported.Recovery words)
+reported_of chosen = None
+
+-- a task that reports ends as its own definition says; standard error held some bytes before and holds some afterwards
+abbrev pub ReportedEnds : FileBytes → Reported → StreamBytes → StreamBytes → (told told' : Option (List ℕ)) → Result (Unit {0}) TaskFault → Type 0
+ReportedEnds files (reported.Search words) old new told told' end = SearchEnds files words old new told told' end
+ReportedEnds files (reported.Recovery words) old new told told' end = RecoveryEnds files words old new told told' end
