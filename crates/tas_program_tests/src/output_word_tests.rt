@@ -9,7 +9,7 @@ use tas_program::read_words;
 /// The words, the names of files and the numbers in them, and the file of the output, by hand.
 type Row<'a> = (&'a [&'a str], &'a [&'a str], &'a [usize], Option<&'a str>);
 
-static ROWS: [Row<'static>; 17] = [
+static ROWS: [Row<'static>; 19] = [
     (&["migrate", "a", "-o", "b"], &["a"], &[], Some("b")),
     (&["migrate", "-o", "b", "a"], &["a"], &[], Some("b")),
     (&["migrate", "--output", "b", "a"], &["a"], &[], Some("b")),
@@ -17,6 +17,13 @@ static ROWS: [Row<'static>; 17] = [
     (&["migrate", "-ob", "a"], &["a"], &[], Some("b")),
     (&["migrate", "a"], &["a"], &[], None),
     (&["new", "a", "9", "-o", "b"], &["a"], &[9], Some("b")),
+    (&["recover", "a", "-o", "b"], &["a"], &[], Some("b")),
+    (
+        &["recover", "-o", "b", "--until", "9", "a"],
+        &["a"],
+        &[9],
+        Some("b"),
+    ),
     (
         &["cut", "a", "-o", "b", "1", "2"],
         &["a"],

@@ -67,6 +67,11 @@ fn parts<'a>(order: Order<'a>) -> Parts<'a> {
         Task::Check { cart } => ("check", [Some(cart), None, None, None], [None; 4]),
         Task::Migrate { cart } => ("migrate", [Some(cart), None, None, None], [None; 4]),
         Task::New { cart, frames } => ("new", [Some(cart), None, None, None], one(frames)),
+        Task::Recover(words) => {
+            let until = words.until.map(|line| line as usize);
+            let files = [Some(words.cart), None, None, None];
+            ("recover", files, [until, None, None, None])
+        }
         Task::Search(words) => (
             "search",
             [

@@ -11,7 +11,7 @@ use std::thread::Threads;
 type Refused<'a> = (&'a [&'a str], &'a [u8]);
 
 /// Words of which one is in a number's place, or one too many: each text has a tip, with the right line.
-static TIPS: [Refused<'static>; 11] = [
+static TIPS: [Refused<'static>; 12] = [
     (
         &["shot", "game.bin", "game.movie"],
         b"error: invalid value 'game.movie' for '<K>': invalid digit found in string\n\n  tip: the movie is read from standard input: tas shot game.bin 60 < game.movie > frame60.ppm\n\nFor more information, try '--help'.\n",
@@ -19,6 +19,10 @@ static TIPS: [Refused<'static>; 11] = [
     (
         &["check", "game.bin", "game.movie"],
         b"error: unexpected argument 'game.movie' found\n\n  tip: the movie is read from standard input: tas check game.bin < game.movie\n\nUsage: tas check <CART> < MOVIE\n\nFor more information, try '--help'.\n",
+    ),
+    (
+        &["recover", "game.bin", "game.journal"],
+        b"error: unexpected argument 'game.journal' found\n\n  tip: the journal is read from standard input: tas recover game.bin -o game.movie < game.journal\n\nUsage: tas recover [OPTIONS] <CART> < JOURNAL\n\nFor more information, try '--help'.\n",
     ),
     (
         &["search", "game.bin", "60", "12", "reach 1", "game.movie"],
@@ -59,7 +63,7 @@ static TIPS: [Refused<'static>; 11] = [
 ];
 
 /// Words that are refused for other reasons: these texts have no tip of the program's own.
-static NO_TIPS: [Refused<'static>; 7] = [
+static NO_TIPS: [Refused<'static>; 8] = [
     (
         &["shot", "game.bin"],
         b"error: the following required arguments were not provided:\n  <K>\n\nUsage: tas shot <CART> <K> < MOVIE\n\nFor more information, try '--help'.\n",
@@ -75,6 +79,10 @@ static NO_TIPS: [Refused<'static>; 7] = [
     (
         &["new", "game.bin", "game.movie"],
         b"error: invalid value 'game.movie' for '<FRAMES>': invalid digit found in string\n\nFor more information, try '--help'.\n",
+    ),
+    (
+        &["recover", "game.bin", "--until", "0"],
+        b"error: invalid value '0' for '--until <LINE>': 0 is not in 1..=4294967295\n\nFor more information, try '--help'.\n",
     ),
     (
         &["search", "game.bin", "0", "1", "reach 1", "--hold", "x"],
@@ -108,9 +116,9 @@ fn other_words_get_no_tip(rt: HostRuntime) {
 }
 
 /// The commands, and no command.
-static COMMANDS: [&str; 18] = [
-    "trace", "check", "migrate", "new", "search", "shot", "film", "export", "ram", "digest",
-    "compare", "lag", "edit", "cut", "diff", "script", "talk", "desk",
+static COMMANDS: [&str; 19] = [
+    "trace", "check", "migrate", "new", "recover", "search", "shot", "film", "export", "ram",
+    "digest", "compare", "lag", "edit", "cut", "diff", "script", "talk", "desk",
 ];
 
 /// Fails where a line of a text has more than 100 bytes.

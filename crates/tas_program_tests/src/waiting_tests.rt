@@ -64,7 +64,7 @@ impl<'a> Folder for Place<'a> {
 type Case<'a> = (&'a [&'a str], &'a str);
 
 /// A word at fault is reported without it.
-static CASES: [Case<'static>; 24] = [
+static CASES: [Case<'static>; 25] = [
     (
         &["trace", "3"],
         "waiting: the cartridge is read from standard input: tas trace 3 < game.bin\n",
@@ -76,6 +76,10 @@ static CASES: [Case<'static>; 24] = [
     (
         &["migrate", "game.bin"],
         "waiting: the movie is read from standard input: tas migrate game.bin -o new.movie < old.movie\n",
+    ),
+    (
+        &["recover", "game.bin"],
+        "waiting: the journal is read from standard input: tas recover game.bin -o game.movie < game.journal\n",
     ),
     (
         &["search", "game.bin", "0", "1", "reach 1"],

@@ -11,7 +11,7 @@ use std::sync::Wait;
 use std::thread::Threads;
 
 /// Words that name a task, the first of them its command, and the task's files and numbers.
-static TASKS: [(&[&str], &[&str], &[usize]); 38] = [
+static TASKS: [(&[&str], &[&str], &[usize]); 41] = [
     (&["trace", "0"], &[], &[0]),
     (&["trace", "3"], &[], &[3]),
     (&["trace", "1000000"], &[], &[1_000_000]),
@@ -19,6 +19,13 @@ static TASKS: [(&[&str], &[&str], &[usize]); 38] = [
     (&["migrate", "a.bin"], &["a.bin"], &[]),
     (&["new", "a.bin", "0"], &["a.bin"], &[0]),
     (&["new", "7", "262144"], &["7"], &[262_144]),
+    (&["recover", "a.bin"], &["a.bin"], &[]),
+    (&["recover", "a.bin", "--until", "1"], &["a.bin"], &[1]),
+    (
+        &["recover", "--until=4294967295", "7"],
+        &["7"],
+        &[4_294_967_295],
+    ),
     (
         &["search", "a.bin", "0", "0", "reach x"],
         &["a.bin", "reach x"],
@@ -132,7 +139,7 @@ fn each_command_is_its_task(rt: HostRuntime) {
 
 /// Words that are no task: none, an unknown one, too few, too many, numbers past their ranges and
 /// texts that are no numbers, unknown flags.
-static MISUSES: [&[&str]; 96] = [
+static MISUSES: [&[&str]; 103] = [
     &[],
     &[""],
     &["play"],
@@ -156,6 +163,13 @@ static MISUSES: [&[&str]; 96] = [
     &["new", "game.bin", "-1"],
     &["new", "game.bin", "x"],
     &["new", "game.bin", "1", "1"],
+    &["recover"],
+    &["recover", "game.bin", "other"],
+    &["recover", "game.bin", "--until"],
+    &["recover", "game.bin", "--until", "0"],
+    &["recover", "game.bin", "--until", "4294967296"],
+    &["recover", "game.bin", "--until", "x"],
+    &["recover", "--until", "7", "--until", "8", "game.bin"],
     &["search"],
     &["search", "game.bin", "0", "1"],
     &["search", "game.bin", "0", "1", "reach 1", "other"],
@@ -333,7 +347,7 @@ fn a_missing_word_is_named(rt: HostRuntime) {
 }
 
 /// Words that ask for help, and the beginning of the text.
-static HELPS: [Shown<'static>; 19] = [
+static HELPS: [Shown<'static>; 20] = [
     (
         &["--help"],
         b"Replays movies of Atari 2600 cartridges, exactly and from power-on\n\nUsage: tas <COMMAND>\n",
@@ -357,6 +371,10 @@ static HELPS: [Shown<'static>; 19] = [
     (
         &["new", "--help"],
         b"Writes the text of a movie in which nothing is pressed\n\nUsage: tas new [OPTIONS] <CART> <FRAMES>\n",
+    ),
+    (
+        &["recover", "--help"],
+        b"Writes the text of the movie that a journal makes\n\nUsage: tas recover [OPTIONS] <CART> < JOURNAL\n",
     ),
     (
         &["search", "--help"],
