@@ -8,6 +8,7 @@ from collections import namedtuple
 from hashlib import sha256
 
 import drafts
+import journals
 import machine
 import readings
 import searches
@@ -21,11 +22,11 @@ MOST_STATES = 100000  # of a layer of a search, without --most
 # The words after each command: a cartridge, a file, a movie's file, a goal, a number; those after the bar may be missing. And the most that each number may be.
 FORMS = {
     "check": "c", "migrate": "c", "edit": "cf", "cut": "cnn", "diff": "cm", "script": "", "talk": "|cm", "shot": "cn", "film": "c|nn", "export": "cnnw", "ram": "cnn",
-    "digest": "c|e", "compare": "cm", "lag": "c", "trace": "t", "new": "cl", "search": "cnlg", "desk": "cmff|ffffffffffffff"}
-NUMBERS = {"n": (0, 9999999), "w": (1, 16), "e": (1, MOST), "l": (0, MOST), "s": (1, 9999999), "t": (0, 1000000)}
-FLAGS = {"edit": ("--with",), "search": ("--choices", "--names", "--hold", "--most"), "script": ("--cart", "--movie")}
-FLAG_NUMBERS = {"--hold": "e", "--most": "s"}
-NUMBER = re.compile(r"\+?0*([0-9]{1,8})")
+    "digest": "c|e", "compare": "cm", "lag": "c", "trace": "t", "new": "cl", "recover": "c", "search": "cnlg", "desk": "cmff|ffffffffffffff"}
+NUMBERS = {"n": (0, 9999999), "w": (1, 16), "e": (1, MOST), "l": (0, MOST), "s": (1, 9999999), "t": (0, 1000000), "j": (1, 4294967295)}
+FLAGS = {"edit": ("--with",), "recover": ("--until",), "search": ("--choices", "--names", "--hold", "--most"), "script": ("--cart", "--movie")}
+FLAG_NUMBERS = {"--hold": "e", "--most": "s", "--until": "j"}
+NUMBER = re.compile(r"\+?0*([0-9]{1,10})")
 
 Wanted = namedtuple("Wanted", "output errors status")  # nothing stands for a text for people
 NOT_TEXT = Wanted(b"", b"error: the words aren't all text\n", 2)
@@ -179,6 +180,14 @@ class Run:
     def new(self, cart, frames):
         cart, = self.inputs.read([cart], False)
         return hands.movie_text(sized(cart), [hands.REST] * frames)
+
+    def recover(self, cart, until=None):
+        """The movie of a journal of any length; the report goes to standard error."""
+        cart, = self.inputs.read([cart], False)
+        cart, frames, report = journals.recovered(self.inputs.stream, sized(cart), until)
+        self.errors = report.encode()
+        self.seen["recover: a cut line"] += "cut" in report
+        return hands.movie_text(cart, frames)
 
     def search(self, cart, start, frames, goal, choices=None, names=None, hold=1, most=MOST_STATES):
         """The script; the verdict goes to standard error."""
