@@ -1,0 +1,163 @@
+-- What a journal has before a line and after it.
+use Rattle.std.proofs.Common.{◌≡◌, ℕ, ◌+◌, ◌-◌, ◌<◌, ◌≤◌, List, ◌++◌, length, take, drop, Option, Some, refl, sym, ap, subst, ◌∙◌, arith}
+use Rattle.std.specs.Prelude.{min}
+use Rattle.std.specs.Io.KnownBytes.{Appends}
+use Rattle.std.proofs.KnownBytes.{Appends-trans}
+use Rattle.std.proofs.lemmas.List.{take-append-le, length-append, length-drop, length-take, take_all}
+use Rattle.std.proofs.Math.Seq.{take-append-add}
+use mathlib.Core.List.{IsPrefix}
+use Rattle.byte_text.specs.CutOff.{IsCutOff}
+use Rattle.tas_published.specs.declared.entry.Entry.{Entry}
+use Rattle.tas_published.proofs.PrefixLemmas.{prefix_self}
+use Rattle.tas_desk.specs.Seats.{SeatContent, KeepsZone}
+use Rattle.tas_journal.specs.Text.{entry_lines}
+use Rattle.tas_language.specs.declared.request.Request.{Request}
+use Rattle.tas_seat.specs.Conversations.{TalkingSeat}
+use Rattle.tas_seat.specs.Outcomes.{HasTalkAnswer}
+use Rattle.tas_seat.proofs.HistoryLemmas.{line_leaves}
+use Rattle.tas_journaling.specs.declared.journal.JournalFault.{JournalFault}
+use Rattle.tas_journaling.specs.declared.journal.JournalFault.TheVariants.{Write, Sync, Memory}
+use Rattle.tas_journaling.specs.Journals.{journaled, lines_from, JournalContent, IsNoted, IsCutShort}
+use Rattle.tas_journaling.specs.Answers.{KeepsUp, FallsShort}
+use Rattle.tas_journaling.proofs.LineLemmas.{lines_split}
+
+-- ---- seats
+
+pub keeps_same : {A : Type 0} (seat : SeatContent A) → KeepsZone seat seat
+keeps_same seat = record { seen = record { number = refl; made = refl; begins = prefix_self seat.front }; zone = refl }
+
+-- ---- histories
+
+prefix_length : {X : Type 0} (a b : List X) (p : IsPrefix a b) → length b ≡ length a + length p.0
+prefix_length {X} a b p = ap (λ (l : List X). length l) (sym p.1) ∙ length-append a p.0
+
+-- of a longer history a journal has the same beginning
+pub noted_on : {A : Type 0} (head : Option (List ℕ)) (old new : List (Entry A)) (journal : JournalContent) → IsNoted head old journal → IsPrefix old new → IsNoted head new journal
+noted_on {A} head old new journal is more =
+    let same : take journal.upto new ≡ take journal.upto old =
+    ap (λ (l : List (Entry A)). take journal.upto l) (sym more.1) ∙ take-append-le journal.upto old more.0 is.few in
+    record {
+      whole = is.whole;
+      from = is.from;
+      few = omega (arith, is.few, prefix_length old new more);
+      bytes = subst (λ (l : List (Entry A)). Appends head journal.bytes (lines_from journal.first l)) (sym same) is.bytes;
+    }
+
+-- how many entries were asked for
+pub entries_length : {A : Type 0} (most upto at : ℕ) (history entries : List (Entry A)) → entries ≡ take most (drop upto history) → at ≡ length history → length entries ≡ min most (at - upto)
+entries_length {A} most upto at history entries are long =
+    ap (λ (l : List (Entry A)). length l) are ∙ length-take most (drop upto history) ∙ ap (λ (n : ℕ). min most n) (length-drop upto history ∙ ap (λ (n : ℕ). n - upto) (sym long))
+
+-- and that they are all that follow
+all_entries : {A : Type 0} (most upto at : ℕ) (history entries : List (Entry A)) → entries ≡ take most (drop upto history) → at ≡ length history → length entries ≡ at - upto → entries ≡ drop upto history
+all_entries {A} most upto at history entries are long whole =
+    are ∙ take_all most (drop upto history) (omega (arith, entries_length most upto at history entries are long, whole, long, length-drop upto history))
+
+-- ---- bytes of a file
+
+-- a write was cut off; `seen` is the journal that `old` names
+pub cut_part : (old seen : JournalContent) (new : Option (List ℕ)) (bytes : List ℕ) (sent : ℕ) → seen ≡ old → IsCutOff seen.bytes new bytes sent → (part : ℕ) × Appends old.bytes new (take part bytes)
+cut_part old seen new bytes sent is cut = (sent, subst (λ (j : JournalContent). Appends j.bytes new (take sent bytes)) is cut.front)
+
+-- all was written
+pub whole_part : (old seen : JournalContent) (middle new : Option (List ℕ)) (bytes : List ℕ) → seen ≡ old → Appends seen.bytes middle bytes → new ≡ middle → (part : ℕ) × Appends old.bytes new (take part bytes)
+whole_part old seen middle new bytes is out same = (
+  length bytes,
+  subst (λ (l : List ℕ). Appends old.bytes new l) (sym (take_all (length bytes) bytes (omega arith)))
+      (subst (λ (o : Option (List ℕ)). Appends old.bytes o bytes) (sym same) (subst (λ (j : JournalContent). Appends j.bytes middle bytes) is out)),
+)
+
+-- the entries that were asked for, from the place that the journal names
+pub asked : {A : Type 0} (old seen : JournalContent) (most : ℕ) (history items entries : List (Entry A)) → seen ≡ old → entries ≡ items → items ≡ take most (drop seen.upto history) → entries ≡ take most (drop old.upto history)
+asked {A} old seen most history items entries is same are = same ∙ are ∙ ap (λ (j : JournalContent). take most (drop j.upto history)) is
+
+-- ---- notes
+
+-- there is nothing to note
+pub lacks_none : {A : Type 0} (before now : SeatContent A) (journal : JournalContent) (most at : ℕ) (entries : List (Entry A)) → KeepsZone before now → entries ≡ take most (drop journal.upto now.front) → at ≡ length now.front → 0 < most → length entries ≡ 0
+    → KeepsUp before now journal journal
+lacks_none {A} before now journal most at entries kept are long some none = λ head is.
+    let noted = noted_on head before.front now.front journal is kept.seen.begins in
+    record { noted = noted; all = omega (arith, entries_length most journal.upto at now.front entries are long, none, some, long, noted.few) }
+
+-- the lines of the old entries and of those that follow are those of the history
+both_lines : {A : Type 0} (history : List (Entry A)) (old : JournalContent) (entries : List (Entry A)) → old.first ≤ old.upto → old.upto ≤ length history → entries ≡ drop old.upto history
+    → lines_from old.first (take old.upto history) ++ entry_lines (old.upto - old.first) (journaled entries) ≡ lines_from old.first history
+both_lines {A} history old entries from few are =
+    ap (λ (l : List (Entry A)). lines_from old.first (take old.upto history) ++ entry_lines (old.upto - old.first) (journaled l)) are ∙ sym (lines_split old.first old.upto history from few)
+
+-- the lines that it lacked were written
+pub notes_all : {A : Type 0} (before now : SeatContent A) (old new : JournalContent) (most at : ℕ) (entries : List (Entry A)) → KeepsZone before now → entries ≡ take most (drop old.upto now.front) → at ≡ length now.front → length entries ≡ at - old.upto
+    → new.first ≡ old.first → new.upto ≡ at → new.fault ≡ old.fault → Appends old.bytes new.bytes (entry_lines (old.upto - old.first) (journaled entries)) → KeepsUp before now old new
+notes_all {A} before now old new most at entries kept are long whole same to fault out = λ head is.
+    let history : List (Entry A) = now.front in
+    let noted = noted_on head before.front history old is kept.seen.begins in
+    let front : List ℕ = lines_from old.first (take old.upto history) in
+    let lines : List ℕ = entry_lines (old.upto - old.first) (journaled entries) in
+    let both : front ++ lines ≡ lines_from old.first history = both_lines history old entries noted.from noted.few (all_entries most old.upto at history entries are long whole) in
+    let all : take new.upto history ≡ history = take_all new.upto history (omega (arith, to, long)) in
+    let named : lines_from old.first history ≡ lines_from new.first (take new.upto history) =
+    ap (λ (k : ℕ). lines_from k history) (sym same) ∙ ap (λ (l : List (Entry A)). lines_from new.first l) (sym all) in
+    record {
+      noted = record {
+        whole = fault ∙ noted.whole;
+        from = omega (arith, same, to, long, noted.from, noted.few);
+        few = omega (arith, to, long);
+        bytes = subst (λ (l : List ℕ). Appends head new.bytes l) (both ∙ named) (Appends-trans head old.bytes new.bytes front lines noted.bytes out);
+      };
+      all = to ∙ long;
+    }
+
+-- the first bytes of these lines were written
+notes_part : {A : Type 0} (before now : SeatContent A) (old new : JournalContent) (most at sent : ℕ) (entries : List (Entry A)) → KeepsZone before now → entries ≡ take most (drop old.upto now.front) → at ≡ length now.front → length entries ≡ at - old.upto
+    → new.first ≡ old.first → new.upto ≡ old.upto → Appends old.bytes new.bytes (take sent (entry_lines (old.upto - old.first) (journaled entries))) → (head : Option (List ℕ)) → IsNoted head before.front old → IsCutShort head now.front new
+notes_part {A} before now old new most at sent entries kept are long whole same to out head is =
+    let history : List (Entry A) = now.front in
+    let noted = noted_on head before.front history old is kept.seen.begins in
+    let front : List ℕ = lines_from old.first (take old.upto history) in
+    let lines : List ℕ = entry_lines (old.upto - old.first) (journaled entries) in
+    let both : front ++ lines ≡ lines_from old.first history = both_lines history old entries noted.from noted.few (all_entries most old.upto at history entries are long whole) in
+    let part : front ++ take sent lines ≡ take (length front + sent) (lines_from new.first history) =
+    sym (take-append-add front lines sent) ∙ ap (λ (l : List ℕ). take (length front + sent) l) (both ∙ ap (λ (k : ℕ). lines_from k history) (sym same)) in
+    let named : lines_from new.first (take new.upto history) ≡ front =
+    ap (λ (k : ℕ). lines_from k (take new.upto history)) same ∙ ap (λ (k : ℕ). lines_from old.first (take k history)) to in
+    let size : length (lines_from new.first (take new.upto history)) ≡ length front = ap (λ (l : List ℕ). length l) named in
+    record {
+      from = omega (arith, same, to, noted.from);
+      few = omega (arith, to, noted.few);
+      sent = length front + sent;
+      reached = omega (arith, size);
+      bytes = subst (λ (l : List ℕ). Appends head new.bytes l) part (Appends-trans head old.bytes new.bytes front (take sent lines) noted.bytes out);
+    }
+
+-- they weren't all written
+pub notes_less : {A : Type 0} (before now : SeatContent A) (old new : JournalContent) (most at : ℕ) (entries : List (Entry A)) (fault : JournalFault) → KeepsZone before now → entries ≡ take most (drop old.upto now.front) → at ≡ length now.front
+    → length entries ≡ at - old.upto → new.first ≡ old.first → new.upto ≡ old.upto → (fault ≡ Memory → new ≡ old) → ((fault ≡ Memory → ⊥) → new.fault ≡ Some fault)
+    → (sent : ℕ) × Appends old.bytes new.bytes (take sent (entry_lines (old.upto - old.first) (journaled entries))) → FallsShort before now old new fault
+notes_less before now old new most at entries Memory kept are long whole same to as_it_was named part = as_it_was refl
+notes_less before now old new most at entries Write kept are long whole same to as_it_was named (sent, out) = λ head is.
+    (notes_part before now old new most at sent entries kept are long whole same to out head is, to, named (λ e. absurd (cc e)))
+notes_less before now old new most at entries Sync kept are long whole same to as_it_was named (sent, out) = λ head is.
+    (notes_part before now old new most at sent entries kept are long whole same to out head is, to, named (λ e. absurd (cc e)))
+
+-- a journal that has failed before
+pub failed_before : {A : Type 0} (before now : SeatContent A) (journal : JournalContent) (fault : JournalFault) → journal.fault ≡ Some fault → FallsShort before now journal journal fault
+failed_before before now journal Memory is = refl
+failed_before before now journal Write is = λ head noted. absurd (cc (is, noted.whole))
+failed_before before now journal Sync is = λ head noted. absurd (cc (is, noted.whole))
+
+-- ---- answers
+
+-- what a seat had seen begins what it has seen once it is answered
+noted_then : {A : Type 0} (head : Option (List ℕ)) (before now : TalkingSeat A) (request : Request) (answer : List ℕ) (journal : JournalContent) → HasTalkAnswer A before now request answer → IsNoted head before.seat.front journal → IsNoted head now.seat.front journal
+noted_then {A} head before now request answer journal answered is =
+    noted_on head before.seat.front now.seat.front journal is (line_leaves A before now (Some request) answer answered.0 answered.1).seen
+
+pub keeps_up_from : {A : Type 0} (before now : TalkingSeat A) (last : SeatContent A) (request : Request) (answer : List ℕ) (old new : JournalContent) → HasTalkAnswer A before now request answer → KeepsUp now.seat last old new → KeepsUp before.seat last old new
+keeps_up_from before now last request answer old new answered keeps = λ head is. keeps head (noted_then head before now request answer old answered is)
+
+pub falls_short_from : {A : Type 0} (before now : TalkingSeat A) (last : SeatContent A) (request : Request) (answer : List ℕ) (old new : JournalContent) (fault : JournalFault) → HasTalkAnswer A before now request answer → FallsShort now.seat last old new fault
+    → FallsShort before.seat last old new fault
+falls_short_from before now last request answer old new Memory answered short = short
+falls_short_from before now last request answer old new Write answered short = λ head is. short head (noted_then head before now request answer old answered is)
+falls_short_from before now last request answer old new Sync answered short = λ head is. short head (noted_then head before now request answer old answered is)

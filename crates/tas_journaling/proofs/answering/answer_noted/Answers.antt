@@ -1,0 +1,37 @@
+use Rattle.std.proofs.Common.{refl, subst, List, ℕ}
+use Rattle.std.specs.Io.KnownBytes.{Appends}
+use Rattle.std.proofs.KnownBytes.{Appends-kept}
+use Rattle.byte_text.specs.CutOff.{IsCutOff}
+use Rattle.tas_seat.specs.Conversations.{talking}
+use Rattle.tas_seat.proofs.TalkLemmas.{counted_from_nothing}
+use Rattle.tas_journaling.proofs.NoteLemmas.{falls_short_from, keeps_up_from}
+use Rattle.tas_journaling.proofs.answering.answer_noted.Goals as goal
+
+pub returns-in-Err-note : goal.returns-in-Err-note
+returns-in-Err-note g c =
+    let answered = rw c.in-Some.is at c.in-Ok.ensures.answer in (
+      c.in-Some.bytes.items,
+      record { seat = c.answer_talk.new.seat; answered = answered; shown = c.in-Err-note.ensures.seat },
+      refl,
+      falls_short_from (talking c.args.seat.now c.args.draft.now) (talking c.answer_talk.new.seat c.answer_talk.new.draft) c.note.new.seat c.args.request c.in-Some.bytes.items c.args.journal.now c.note.new.self c.in-Err-note.fault answered c.in-Err-note.ensures.fault,
+    )
+
+pub returns-in-Err-write_counted : goal.returns-in-Err-write_counted
+returns-in-Err-write_counted g c =
+    let answered = rw c.in-Some.is at c.in-Ok.ensures.answer in (
+      c.in-Some.bytes.items,
+      record { seat = c.answer_talk.new.seat; answered = answered; shown = c.in_default-note.ensures.seat },
+      subst (λ (l : List ℕ). IsCutOff (g.W.Write.contents c.args.output.now) (g.W.Write.contents c.write_counted.new.to) l c.in-Err-write_counted.fault.written) c.as_slice.ensures.value
+          (counted_from_nothing _ _ c.as_slice.result.now c.in-Err-write_counted.fault.written c.in-Err-write_counted.ensures.cut),
+      keeps_up_from (talking c.args.seat.now c.args.draft.now) (talking c.answer_talk.new.seat c.answer_talk.new.draft) c.note.new.seat c.args.request c.in-Some.bytes.items c.args.journal.now c.note.new.self answered c.in_default-note.ensures.done,
+    )
+
+pub returns : goal.returns
+returns g c =
+    let answered = rw c.in-Some.is at c.in-Ok.ensures.answer in (
+      c.in-Some.bytes.items,
+      record { seat = c.answer_talk.new.seat; answered = answered; shown = c.in_default-note.ensures.seat },
+      subst (λ (l : List ℕ). Appends (g.W.Write.contents c.args.output.now) (g.W.Write.contents c.flush.new.self) l) c.as_slice.ensures.value
+          (Appends-kept _ _ _ c.as_slice.result.now c.in_default-write_counted.ensures.all c.flush.ensures.bytes),
+      keeps_up_from (talking c.args.seat.now c.args.draft.now) (talking c.answer_talk.new.seat c.answer_talk.new.draft) c.note.new.seat c.args.request c.in-Some.bytes.items c.args.journal.now c.note.new.self answered c.in_default-note.ensures.done,
+    )

@@ -1,0 +1,80 @@
+//! Answers that wait for the journal.
+
+ghost use Rattle.std.specs.Prelude.{◌≡◌};
+ghost use Rattle.tas_seat.specs.Conversations.{talking};
+ghost use Rattle.tas_journaling.specs.Answers.{IsNotedAnswer};
+
+use crate::{Journal, JournalFault, JournalFile};
+use byte_text::write_counted;
+use std::alloc::Allocator;
+use std::io::Write;
+use std::sync::Wait;
+use tas_desk::{CloseOnDrop, Desk, Name, Seat};
+use tas_engines::RunFault;
+use tas_language::Request;
+use tas_seat::{Draft, answer_talk};
+use thiserror::Error;
+
+/// Why an answer isn't out whole.
+#[derive(Clone, Copy, Debug, PartialEq, Eq, Error)]
+pub enum AnswerFault {
+    /// The request isn't answered. Nothing is written.
+    #[error("{0}")]
+    Talk(RunFault),
+    /// The request is carried out, but the journal hasn't all edits. Nothing of the answer is written.
+    #[error("journal: {0}")]
+    Journal(JournalFault),
+    /// The request is carried out, and the journal has its edits. This many bytes of the answer are written, fewer than all.
+    #[error("write failed after {0} bytes")]
+    Write(usize),
+}
+
+/// Answers a request of a conversation as [`answer_talk`] does, and writes the answer; `false` where it asks for the end, which has no
+/// answer. Before the answer's first byte is written, the journal has all that the seat has seen of the history, its own edits among it,
+/// and was brought to the disk. The seat is shown the history for that, also by a request that only looks.
+///
+/// Faults: those of `answer_talk`; those of [`Journal::note`]; and a write that failed. An edit that was made stays in the history.
+pub fn answer_noted<
+    N: Name,
+    C: CloseOnDrop,
+    A: Allocator + Copy,
+    R: Wait,
+    W: Write,
+    J: JournalFile,
+>(
+    rt: &R,
+    alloc: A,
+    desk: &Desk<N, C, A>,
+    seat: &mut Seat<N, A>,
+    draft: &mut Option<Draft<A>>,
+    request: Request,
+    journal: &mut Journal<J>,
+    output: &mut W,
+) -> Result<bool, AnswerFault>
+    // A request is answered as in a conversation without a journal. Where the journal's file had its head and the lines of a
+    // beginning of what the seat had seen, it has those of all that the seat has seen, its edits among them, whenever the
+    // answer is out, whole or in part; each line is there once, in order, and nothing else is. Where the journal fails,
+    // nothing of the answer is out, and the file has the old lines and some first bytes of the next ones. As the writers of
+    // answers and journal may fail at each byte, so it is at each moment.
+    // Refused: answer_goes_out_before_its_entry, answer_goes_out_after_a_failed_journal,
+    // refusal_of_the_journal_comes_after_the_first_byte.
+    ensures { IsNotedAnswer (talking seat.old draft.old) (talking seat.new draft.new) request
+        journal.old journal.new (W.contents output.old) (W.contents output.new) result }
+{
+    let found = match answer_talk(rt, alloc, desk, seat, draft, request) {
+        Ok(found) => found,
+        Err(fault) => return Err(AnswerFault::Talk(fault)),
+    };
+    let Some(bytes) = found else {
+        return Ok(false);
+    };
+    if let Err(fault) = journal.note(rt, alloc, desk, seat) {
+        return Err(AnswerFault::Journal(fault));
+    }
+    if let Err(fault) = write_counted(bytes.as_slice(), 0, output) {
+        return Err(AnswerFault::Write(fault.written));
+    }
+    // A flush that fails isn't reported, as in a conversation without a journal.
+    let _ = output.flush();
+    Ok(true)
+}

@@ -1,0 +1,10 @@
+//! Journals of conversations: each edit is in the journal's file, and on the disk, before its answer goes out.
+//!
+//! A crate of its own: `tas_journal` knows no desk, and `tas_seat` no journal, so that a conversation without one costs nothing more.
+#![tactic(auto)]
+
+mod answering;
+mod journal;
+
+pub use answering::{AnswerFault, answer_noted};
+pub use journal::{Journal, JournalFault, JournalFile};

@@ -1,0 +1,11 @@
+//! What the file of a conversation's journal has, whatever fails: worked examples.
+#![tactic(auto)]
+
+#[cfg(test)]
+mod checks;
+#[cfg(test)]
+mod disks;
+#[cfg(test)]
+mod journal_tests;
+#[cfg(test)]
+mod talks;
