@@ -1,7 +1,7 @@
 //! `tas recover`: the movie on standard output or in a file, the report on standard error, and the fault of each input.
 
 use crate::checks::{check_same, check_that};
-use crate::desk_files::{Client, DeskFolder, Ordinary, SILENT, tapes};
+use crate::desk_files::{Client, DeskFolder, Ordinary, SILENT, Tape, tapes};
 use crate::movies::{PLAYFIELD, image_of};
 use crate::programs::{End, ONE_FRAME, check_run, only_game, run, words_of};
 use std::alloc::Global;
@@ -10,7 +10,7 @@ use std::sync::Wait;
 use std::sync::atomic::{AtomicUsize, Ordering};
 use std::thread::Threads;
 use tas_program::{Streams, run_program};
-use test_streams::{Failure, Giver, Room, Taker};
+use test_streams::{Failure, Room, Taker};
 
 /// A journal that begins with the movie of one frame and has two edits, of seats 0 and 3: it has eight lines. The digests come from another
 /// program.
@@ -252,47 +252,55 @@ static SAVED: [Saved<'static>; 6] = [
 /// A desk's folder without pairs.
 static CLIENTS: [Client<'static>; 1] = [SILENT];
 
-/// Fails where a recovery into a file ends in another way.
-fn check_saved<R: Threads + Wait + Abort + Sync>(
+/// Runs a recovery into a file of this folder: its status. What it says goes to this writer.
+fn run_into<R: Threads + Wait + Abort + Sync>(
     rt: &R,
     alloc: Global,
-    game: &[u8],
-    number: usize,
-    row: Saved<'_>,
-) {
-    let (ordinary, room, end, line, is_saved) = row;
-    let tapes = tapes(rt, alloc, 1);
-    let folder = DeskFolder {
+    folder: &DeskFolder<'_>,
+    output: &mut Vec<u8>,
+    errors: &mut Taker,
+) -> u8 {
+    let words = words_of(rt, alloc, INTO_NEW).into_iter();
+    let mut streams = Streams {
+        input: JOURNAL,
+        output,
+        errors,
+    };
+    run_program(rt, alloc, alloc, Ok(words), folder, &mut streams).code()
+}
+
+/// A folder of these ordinary files, without pairs.
+fn folder_of<'a>(
+    game: &'a [u8],
+    tapes: &'a [Tape],
+    ordinary: &'a [Ordinary<'a>],
+) -> DeskFolder<'a> {
+    DeskFolder {
         game,
         other: b"",
         clients: CLIENTS.as_slice(),
-        tapes: tapes.as_slice(),
+        tapes,
         ordinary,
         opened: AtomicUsize::new(0),
-    };
-    let mut output = Vec::new(alloc);
-    let mut streams = Streams {
-        input: Giver::new(JOURNAL, usize::MAX, 0),
-        output: &mut output,
-        errors: Taker::new(alloc, 1000, Room::Bytes(room), Failure::Error),
-    };
-    let words = words_of(rt, alloc, INTO_NEW).into_iter();
-    let status = run_program(rt, alloc, alloc, Ok(words), &folder, &mut streams).code();
-    let said = streams.errors.taken.as_slice();
-    check_same(rt, ("line", number), said, line);
-    let opened = folder.opened.load(Ordering::SeqCst);
-    check_same(rt, ("status, opened", number), (status, opened), end);
-    check_that(rt, ("silent", number), output.is_empty());
-    let text = if is_saved { AFTER_TWO } else { b"" };
-    let holds = tapes.first().is_some_and(|tape| tape.holds(text));
-    check_that(rt, ("file", number), holds);
+    }
 }
 
 #[test]
 fn movies_replace_files(rt: HostRuntime) {
     let alloc = rt.alloc();
     let game = image_of(&rt, alloc, PLAYFIELD.bytes);
-    for (number, row) in SAVED.iter().enumerate() {
-        check_saved(&rt, alloc, game.as_slice(), number, *row);
+    for (number, (ordinary, room, end, line, is_saved)) in SAVED.iter().enumerate() {
+        let tapes = tapes(&rt, alloc, 1);
+        let folder = folder_of(game.as_slice(), tapes.as_slice(), ordinary);
+        let mut output = Vec::new(alloc);
+        let mut errors = Taker::new(alloc, 1000, Room::Bytes(*room), Failure::Error);
+        let status = run_into(&rt, alloc, &folder, &mut output, &mut errors);
+        check_same(&rt, ("line", number), errors.taken.as_slice(), *line);
+        let opened = folder.opened.load(Ordering::SeqCst);
+        check_same(&rt, ("end", number), (status, opened), *end);
+        check_that(&rt, ("silent", number), output.is_empty());
+        let text = if *is_saved { AFTER_TWO } else { b"" };
+        let holds = tapes.first().is_some_and(|tape| tape.holds(text));
+        check_that(&rt, ("file", number), holds);
     }
 }
