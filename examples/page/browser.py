@@ -95,7 +95,7 @@ class Run:
 
 def browser(width=1280, height=860):
     options = webdriver.ChromeOptions()
-    words = ["--headless=new", "--disable-gpu", f"--window-size={width},{height}", "--disable-background-networking"]
+    words = ["--headless=new", "--disable-gpu", "--disable-software-rasterizer", f"--window-size={width},{height}", "--disable-background-networking"]
     for word in words + (["--no-sandbox"] if os.geteuid() == 0 else []):
         options.add_argument(word)
     options.set_capability("goog:loggingPrefs", {"browser": "ALL"})
@@ -132,7 +132,7 @@ class Page:
             if time.monotonic() - begin > seconds:
                 self.shot("failed")
                 raise Wrong(f"{what}: not within {seconds} seconds; the page says {self.text('words')!r}, {self.text('status')!r}")
-            time.sleep(0.005)
+            time.sleep(0.02)
         return time.monotonic() - begin
 
     def says(self, name, words, seconds=20):

@@ -34,6 +34,9 @@ export async function ask(...lines) {
 export const decode = bytes => decoder.decode(bytes);
 export const lines = bytes => decode(bytes).split("\n").slice(0, -1);
 
+/** Makes lines as one edit of a movie of so many edits; returns the words of what refuses it, or of `commit`. */
+export const edit = async (at, lines) => decode(await (await post(`${lease}/edit`, [at, ...lines, ""].join("\n"))).arrayBuffer()).trimEnd().split(" ");
+
 /** Has the server save the movie, or write a film of some frames; returns what it says. */
 export const save = async () => (await post(`${lease}/save`)).text();
 export const film = async (from, to) => (await post(`${lease}/film`, `${from} ${to}`)).text();
@@ -41,15 +44,11 @@ export const film = async (from, to) => (await post(`${lease}/film`, `${from} ${
 /** A refusal, and what it says in words. */
 export function refusal(words) {
   const [first, at, second, last] = words, said = {
-    full: `a movie takes at most 1,000,000 edits, and ${at} were made`,
-    place: `this reaches past the movie's end: it has ${last} frames`,
-    long: `the movie would have more than 262,144 frames; it has ${last}`,
-    no: at === "frame" ? `the movie has ${words[4]} frames` : "no draft is open",
-    out: "the desk got no memory for it",
+    full: `a movie takes at most 1,000,000 edits, and ${at} were made`, long: `the movie would have more than 262,144 frames; it has ${last}`,
+    place: `this reaches past the movie's end: it has ${last} frames`, no: at === "frame" ? `the movie has ${words[4]} frames` : "no draft is open",
     halted: `the machine has halted in this frame or before it, at address ${second} by the undocumented byte ${last}`,
-    moved: `others have edited the movie since the draft began; it has ${at} edits now`,
-    in: "a draft is open",
-    unknown: "the desk doesn't understand the line",
+    moved: `others have edited the movie; it has ${at} edits now`, in: "a draft is open",
+    out: "the desk got no memory for it", unknown: "the desk doesn't understand the line",
   }[first];
   return `${words.join(" ")} – ${said}.`;
 }

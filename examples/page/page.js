@@ -1,6 +1,6 @@
 // The page: it holds a copy of the movie, and asks the desk one thing at a time, the most urgent one first.
-import { Lost, ask, decode, film, lines, refusal, save, sit } from "./desk.js";
-import { Movie, frames, runs, text } from "./movie.js";
+import { Lost, ask, decode, edit, film, lines, refusal, save, sit } from "./desk.js";
+import { Movie, carry, parse, runs, script, step, text, told } from "./movie.js";
 import { Roll } from "./roll.js";
 
 const FAR = 1024; // a longer way is played in steps of so many frames, between which one can turn back
@@ -18,23 +18,18 @@ const view = {
 const shown = { frame: -1, ram: -1, states: -1 }; // the frames that the picture and RAM are of; when the states were asked for
 const album = new Map(); // the answers with pictures that still hold, of at most 300 frames
 const player = { on: false, next: 0, due: 0 }; // the first frame to ask for, and the first one to show
-const wanted = []; // edits that are still to be asked, each of one line or more
-let at = 0, seat, filled = -1, heard = 0, moved = 0, wake = () => {}, past = { undo: [], redo: [] }, undoing = "";
+const wishes = []; // what the reader wants to have changed, and hasn't been done yet
+let at = 0, seat, filled = -1, heard = 0, moved = 0, way = 0, wake = () => {}, past = { undo: [], redo: [] }, doing = null, news = [];
 
 const roll = new Roll($("roll"), view, {
   select: move,
   stroke({ column, from, to, press }) { hold(press, Math.min(from, to), Math.max(from, to) + 1, column); },
 });
 
-// ---- what the reader sees
-
-function say(words, good = false) {
-  $("words").textContent = words;
-  $("words").classList.toggle("good", good);
-}
+const say = (words, good = false) => { $("words").textContent = words; $("words").classList.toggle("good", good); };
 
 function tell() {
-  const { movie, cursor, draft, base, from, to } = view;
+  const { movie, cursor, draft, from, to } = view;
   view.others = view.others.filter(({ until }) => until > performance.now());
   $("status").textContent = [`frame ${cursor} of ${movie.length}`, cursor < movie.length ? text(movie.frames[cursor]) : "the end",
     ...(to - from > 1 ? [`${to - from} selected`] : []), `edit ${at}`, `seat ${seat}`].join("  ");
@@ -42,14 +37,13 @@ function tell() {
   $("play").textContent = player.on ? "Stop" : "Play";
   $("fill").setAttribute("aria-pressed", filled >= 0);
   document.body.classList.toggle("draft", !!draft);
-  $("draft").textContent = draft ? `Draft of ${draft.lines.length} change${draft.lines.length === 1 ? "" : "s"}: nobody else sees it until you commit it.`
-    + (at > draft.at ? ` Others have edited the movie since (it has ${base.length} frames now), so a commit will be refused: begin again.` : "") : "";
+  $("draft").textContent = draft ? `Draft of ${draft.steps.length} change${draft.steps.length === 1 ? "" : "s"}: nobody else sees it until you commit it.`
+    + (at > draft.at ? " Others have edited the movie since: it will be put on theirs." : "") : "";
   for (const [id, off] of [["undo", !past.undo.length], ["redo", !past.redo.length], ["save", draft], ["film", draft]]) $(id).disabled = !!off;
   roll.draw();
 }
 
-function show(frame) {
-  const { words, bytes } = album.get(frame);
+function show(frame, { words, bytes } = album.get(frame)) {
   if (words[0] === "picture") {
     for (let from = 15, to = 0; to < image.data.length; to++) image.data[to] = to % 4 < 3 ? bytes[from++] : 255;
     screen.putImageData(image, 0, 0);
@@ -68,8 +62,6 @@ function showRam(before, after) {
     .map(({ cell, old, now }) => `${names.get(cell)} ${hex(now)} = ${now}${old === now ? "" : ` (${now > old ? "+" : ""}${now - old})`}`).join("   ");
 }
 
-// ---- the movie
-
 /** From frame `place` on the movie is another one. The state in which that frame begins is the same. */
 function spoil(place) {
   view.lag.fill(0, place);
@@ -81,144 +73,190 @@ function spoil(place) {
   filled = Math.min(filled, place);
 }
 
-/** Hears the answer to a line that changes the movie. What an edit of a draft replaced is put into `own`. Returns whether the line was refused. */
-function heed(line, words, own) {
-  if (words[0] === "begin") {
-    view.draft = { at: Number(words[1]), lines: [], past };
-    view.movie = view.base.copy();
-    past = { undo: [], redo: [] };
-  } else if (words[0] === "commit" || words[0] === "dropped") {
-    const place = view.movie.parting(view.base);
-    past = view.draft.past;
-    view.draft = null;
-    view.movie = view.base;
-    spoil(place);
-  } else if (words[0] !== "edit") {
-    say(`${line.split(" ")[0]}: ${refusal(words)}`);
-    return true;
-  } else if (view.draft) {
-    own.push(view.movie.make(line));
-    view.draft.lines.push(line);
-    spoil(own.at(-1).place);
+/** Notes what takes back a change that this page has made: of one wish it is one undo. */
+function note(back) {
+  if (!doing.backs) {
+    if (doing.kind) past[doing.kind].pop();
+    else past.redo = [];
+    past[doing.kind === "undo" ? "redo" : "undo"].push(doing.backs = []);
   }
-  return false;
+  doing.backs.unshift(back);
 }
 
-/** Catches up with the desk: what this page and others have edited is made in this page's copy, too. */
-function follow({ words, bytes }, own) {
+/** Others have made a change: what this page wants to do, or to undo, is moved with its frames, and so is what the reader looks at. */
+function meet(change) {
+  const { place, count, more } = change, stacks = view.draft?.past ?? past, along = frame => frame >= place + count ? frame + more : frame;
+  for (const [stack, other] of [[stacks.undo, { ...change }], [stacks.redo, { ...change }]]) stack.splice(0, 1 + stack.findLastIndex(backs => !carry(backs, other)));
+  for (const mark of view.others) Object.assign(mark, { place: along(mark.place), end: along(mark.end) });
+  view.others.push({ place, end: place + Math.max(count + more, 1), until: performance.now() + 3000 });
+  if (view.draft) return view.draft.others.push(change);
+  for (const wish of [doing ?? [], ...wishes]) if (wish.steps && !carry(wish.steps, { ...change })) wish.clash = true;
+  for (const key of ["cursor", "anchor"]) view[key] = along(view[key]);
+  roll.follow(along, more);
+}
+
+/** Catches up with the desk: what this page and others have edited is made in this page's copy, too. Returns whether there is more. */
+function follow({ words, bytes }) {
   if (words[0] !== "history") throw new Lost(refusal(words));
-  let first = Infinity, shifted = false;
+  let first = Infinity;
   for (const entry of lines(bytes)) {
-    const [, maker, ...line] = entry.split(" "), change = view.base.make(line.join(" ")), { place, added, removed } = change;
-    first = Math.min(first, place);
-    if (Number(maker) === seat) {
-      own.push(change);
-      if (shifted) say("Others have inserted or deleted frames just before this edit: look where it is.");
-    } else {
-      shifted ||= added !== removed.length;
-      view.others.push({ place, end: place + Math.max(added, 1), until: performance.now() + 3000 });
-      const old = view.draft?.past ?? past;
-      if (Object.values(old).flat(2).some(each => place < each.place + each.added)) old.undo = old.redo = []; // its places aren't those any more
-      if (!view.draft) own.length = 0;
-    }
+    const [number, maker, ...line] = entry.split(" "), change = told(line.join(" ")), back = view.base.make(change);
+    first = Math.min(first, change.place);
+    news.push({ number: Number(number), place: change.place });
+    if (doing && Number(maker) === seat) note(back);
+    else meet(change);
   }
   if (!view.draft && first < Infinity) spoil(first);
-  at = Number(words[2]) + Number(words[3]);
-  heard = at < Number(words[1]) ? 0 : performance.now();
+  [at, heard] = [Number(words[2]) + Number(words[3]), performance.now()];
+  return at < Number(words[1]);
 }
 
-/** Asks lines that change the movie, then the history, then lines that look. Returns the answers to the looks, and whether a change was refused. */
-async function turn(changes, ...looks) {
-  const answers = await ask(...changes, `history ${at}`, ...looks), own = [];
-  const refused = changes.map((line, index) => heed(line, answers[index].words, own)).includes(true);
-  follow(answers[changes.length], own);
-  if (own.length) past[undoing === "undo" ? "redo" : "undo"].push(own);
-  if (own.length && !undoing) past.redo = [];
-  return { refused, seen: answers.slice(changes.length + 1) };
+/** Asks some lines that look, and then the history. Returns the answers to the lines. */
+async function turn(...looks) {
+  news = [];
+  const answers = await ask(...looks, `history ${at}`);
+  if (follow(answers.pop())) while (follow((await ask(`history ${at}`))[0]));
+  return answers;
 }
 
-/** Several lines are made as one edit, in a draft if none is open. */
-async function edit({ lines, kind = "" }) {
-  const whole = lines.length > 1 && !view.draft;
-  undoing = kind;
-  let refused = whole && (await turn(["begin"])).refused;
-  for (let from = 0; from < lines.length && !refused; from += 1000) ({ refused } = await turn(lines.slice(from, from + 1000)));
-  if (whole && view.draft && (refused || (await turn(["commit"])).refused)) await turn(["drop"]);
-  undoing = "";
+/** Whether what an answer says of a frame is so in the present movie: its history is `edits` long. */
+const holds = (edits, frame) => view.draft || !news.some(({ number, place }) => number >= edits && place <= frame);
+
+/** Makes a change in the draft, by one line or more. */
+async function sketch(each) {
+  const asked = script(each), answers = await ask(asked.join("\n")), { draft, movie } = view;
+  for (const [index, { words }] of answers.entries()) {
+    if (words[0] !== "edit") return say(refusal(words));
+    const change = each.line ? each : told(asked[index]), back = movie.make(change);
+    note(back);
+    draft.steps.push({ ...change, put: movie.slice(change.place, change.place + back.count) });
+    spoil(change.place);
+  }
 }
 
-// ---- what is asked next
+/** Makes a wish's changes as one edit, on the movie that the page shows: where others have edited since, they are moved with their frames, and made again. */
+async function land(wish) {
+  for (let tries = 0; !wish.clash && tries < 100; tries++) {
+    const steps = wish.kind ? past[wish.kind].at(-1) : wish.steps;
+    if (!steps) return say(`There is nothing to ${wish.kind}. An edit of others at the same frames ends that.`);
+    const words = await edit(at, steps.flatMap(script));
+    await turn();
+    if (words[0] === "commit") return;
+    if (words[0] !== "moved") return say(refusal(words));
+  }
+  const words = `${refusal(["moved", at])} They have changed the same frames, or do so all the time: `;
+  if (!wish.draft) return say(`${words}nothing was done. Look, and do it again.`);
+  await begin();
+  for (const each of view.draft ? wish.steps : []) await sketch(each);
+  say(`${words}it was begun again on their movie. Look, and commit it then, or drop it.`);
+}
 
+async function begin() {
+  for (;;) {
+    const [{ words }] = await turn("begin");
+    if (words[0] !== "begin") return say(refusal(words));
+    if (Number(words[1]) === at) break;
+    await ask("drop"); // others have edited since: it is a draft of the movie before
+  }
+  view.draft = { at, past, steps: [], others: [], old: view.base, span: [0, 0] };
+  [view.base, view.movie, past] = [view.base.copy(), view.base.copy(), { undo: [], redo: [] }];
+}
+
+async function drop() {
+  await ask("drop");
+  const [place] = view.movie.span(view.base);
+  [past, view.draft, view.movie] = [view.draft.past, null, view.base];
+  spoil(place);
+}
+
+/** Makes the draft's changes once more, on the movie as it is now. */
+async function commit(wish) {
+  const { steps, others } = view.draft, apart = others.map(other => carry(steps, { ...other }));
+  await drop();
+  return land(Object.assign(wish, { steps, draft: true, clash: apart.includes(false) }));
+}
+
+/** Does what the reader wanted: a wish is what to `run`, or the steps of an edit, or a kind of undo. */
+async function fulfil(wish) {
+  doing = wish;
+  if (wish.run) await ((view.draft || wish.run === begin) && wish.run(wish));
+  else if (view.draft) for (const each of wish.kind ? past[wish.kind].at(-1) ?? [] : wish.steps) await sketch(each);
+  else await land(wish);
+  doing = null;
+  if (view.draft) view.draft.span = view.movie.span(view.draft.old);
+}
+
+/** The place of the last kept state that isn't after a frame. */
 const nearest = frame => view.states.findLast(state => state <= frame);
 
-/** Asks for pictures, and keeps their answers unless an edit came in between. Returns whether it did. */
+/** Asks for pictures, and keeps the answers that still hold. Returns them all. */
 async function pictures(from, to) {
-  const { seen } = await turn([], `pictures ${from} ${to}`);
-  if (!view.draft && seen.some(({ words }) => words[0] === "picture" && Number(words[1]) !== at)) return false;
-  seen.forEach((picture, index) => { album.delete(from + index); album.set(from + index, picture); });
+  const seen = await turn(`pictures ${from} ${to}`);
+  for (let frame = from; frame < to; frame++) album.delete(frame);
+  for (const [index, picture] of seen.entries()) if (holds(picture.words[1], from + index)) album.set(from + index, picture);
   for (const oldest of album.keys()) if (album.size > 300) album.delete(oldest);
-  return true;
+  return seen;
 }
 
-/** The picture at the cursor, and after a step those of the next steps. A draft has no window: there each picture of a strip would be played from a kept state. */
 async function look() {
-  const { cursor, movie, draft } = view, near = nearest(cursor), step = cursor - shown.frame, strip = draft ? 1 : STRIP;
-  if (cursor - near > FAR && cursor < movie.length && Math.abs(step) > 16) {
+  const { cursor, movie } = view, near = nearest(cursor);
+  if (cursor - near > FAR && cursor < movie.length && Math.abs(cursor - shown.frame) > 16) {
     $("over").textContent = `Playing to frame ${cursor}: ${Math.floor(100 * near / cursor)} %`;
-    const { seen: [shot, states] } = await turn([], `shot ${near + FAR - 1}`, "states");
+    const [shot, states] = await turn(`shot ${near + FAR - 1}`, "states");
     if (shot.words[0] === "shot") return keep(states);
   }
   if (cursor - near >= movie.stride) shown.states = -1; // more of them are kept after this
-  const from = step === -1 ? Math.max(0, cursor + 1 - strip) : cursor, to = step === 1 ? Math.max(cursor + 1, Math.min(cursor + strip, movie.length)) : cursor + 1;
-  if (await pictures(from, to)) show(cursor);
+  const [picture] = await pictures(cursor, cursor + 1);
+  if (view.cursor !== cursor) return;
+  show(cursor, picture);
+  if (!album.has(cursor)) shown.frame = -1; // it was so a moment ago, and another picture comes
+}
+
+/** The frames of the next steps whose pictures aren't there; none where there are enough. */
+function ahead() {
+  const { cursor, movie } = view, next = Array.from({ length: STRIP }, (_, index) => cursor + way * (index + 1)).find(frame => !album.has(frame));
+  if (!way || Math.abs(next - cursor) > STRIP / 2 || next < 0 || next >= movie.length) return [];
+  return way > 0 ? [next, Math.min(next + STRIP, movie.length)] : [Math.max(0, next + 1 - STRIP), next + 1];
 }
 
 function keep({ words }) {
-  if (words[0] === "states") view.states = [0, ...words.slice(3).map(Number)]; // a frame can always be played from power-on
+  if (words[0] === "states") view.states = [0, ...words.slice(3).map(Number).filter(state => holds(words[1], state - 1))]; // a frame can always be played from power-on
   shown.states = performance.now();
 }
 
 async function strip() {
-  const from = player.next, to = Math.min(from + STRIP, view.movie.length);
-  if (await pictures(from, to) && player.next === from) player.next = to;
+  await pictures(player.next, Math.min(player.next + STRIP, view.movie.length));
+  while (album.has(player.next)) player.next++;
 }
-
 async function ram() {
-  const { cursor } = view, { seen: [before, after] } = await turn([], `ram ${cursor}`, `ram ${Math.min(cursor + 1, view.movie.length)}`);
+  const { cursor } = view, [before, after] = await turn(`ram ${cursor}`, `ram ${Math.min(cursor + 1, view.movie.length)}`);
   if (before.words[0] === "ram" && after.words[0] === "ram") showRam(before.words[3], after.words[3]);
-  shown.ram = cursor;
+  shown.ram = holds(before.words[1], cursor) ? cursor : -1;
 }
-
-/** The first row in sight whose lag isn't known, where that is asked for without a long way. */
-function unknown() {
-  const row = view.lag.indexOf(0, roll.first);
-  return row >= 0 && row < Math.min(roll.first + roll.rows + 1, view.movie.length) && row - nearest(row) < FAR ? row : -1;
-}
-
-async function lag(from) {
-  const to = Math.min(roll.first + roll.rows + 1, view.movie.length), { seen: [{ words, bytes }] } = await turn([], `lag ${from} ${to}`);
-  if (words[0] !== "lag" || !view.draft && Number(words[1]) !== at) return;
+async function lag(from, to) {
+  const [{ words, bytes }] = await turn(`lag ${from} ${to}`);
+  if (words[0] !== "lag" || !holds(words[1], to - 1)) return;
   view.lag.fill(1, from, to);
   for (const line of lines(bytes)) view.lag.fill(2, ...line.split(" ").map(Number));
 }
-
 async function fill() {
-  const end = Math.min(filled + 256, view.movie.length), { seen: [, states] } = await turn([], `work ${end}`, "states");
+  const end = Math.min(filled + 256, view.movie.length), [, states] = await turn(`work ${end}`, "states");
   keep(states);
   filled = end < view.movie.length ? end : -1;
 }
 
 /** Asks the most urgent thing. Returns false if there was none. */
 async function next() {
-  const now = performance.now();
-  if (wanted.length) return edit(wanted.shift());
+  const now = performance.now(), after = ahead(), row = view.lag.indexOf(0, roll.first), end = Math.min(roll.first + roll.rows + 1, view.movie.length);
+  if (wishes.length) return fulfil(wishes.shift());
   if (player.on && player.next - player.due < 2 * STRIP && player.next < view.movie.length) return strip();
   if (!player.on && shown.frame !== view.cursor) return look();
-  if (now - heard > 250) return turn([]);
+  if (now - heard > 250) return turn();
+  if (!player.on && after.length) return pictures(...after);
   if (player.on || now - moved < 60) return false;
   if (shown.ram !== view.cursor) return ram();
-  if (shown.states < 0 || now - shown.states > 2000) return keep((await turn([], "states")).seen[0]);
-  if (unknown() >= 0 && now - view.scrolled > 80) return lag(unknown());
+  if (shown.states < 0 || now - shown.states > 2000) return keep((await turn("states"))[0]);
+  if (row >= 0 && row < end && row - nearest(row) < FAR && now - view.scrolled > 80) return lag(row, end); // where that isn't a long way
   return filled >= 0 && fill();
 }
 
@@ -227,13 +265,9 @@ async function talk() {
     seat = await sit();
     const [{ words, bytes }] = await ask("movie");
     if (words[0] !== "movie") throw new Lost(refusal(words));
-    at = Number(words[1]);
-    view.base = view.movie.read(decode(bytes));
+    [at, view.base] = [Number(words[1]), view.movie.read(decode(bytes))];
     $("names").value = localStorage.getItem(view.base.head) ?? "";
-    for (;;) {
-      if (await next() === false) await new Promise(done => { wake = done; setTimeout(done, 40); });
-      else tell();
-    }
+    for (;;) await next() === false ? await new Promise(done => { wake = done; setTimeout(done, 40); }) : tell();
   } catch (lost) {
     say(lost.message);
     $("tools").inert = true;
@@ -242,10 +276,10 @@ async function talk() {
   }
 }
 
-// ---- what the reader does
-
 function move(frame, selecting = false) {
+  const before = view.cursor;
   view.cursor = Math.max(0, Math.min(frame, view.movie.length));
+  way = Math.abs(view.cursor - before) > 1 ? 0 : view.cursor - before || way;
   if (!selecting) view.anchor = view.cursor;
   moved = performance.now();
   player.on = false;
@@ -255,37 +289,37 @@ function move(frame, selecting = false) {
   wake();
 }
 
-function change(lines, kind) {
-  wanted.push({ lines, kind });
-  say("");
-  wake();
-}
+const want = wish => { wishes.push(wish); say(""); wake(); };
+const change = (...parts) => want({ steps: [step(...parts)] });
 
 /** Presses or releases a switch from one frame to another. At the movie's end a frame is added. */
 function hold(press, from, to, column) {
-  change([from === view.movie.length ? `insert ${from} 1 ${text(1 << column)}` : `${press ? "press" : "release"} ${from} ${to - from} ${text(1 << column)}`]);
+  const bit = 1 << column, count = to - from;
+  if (from === view.movie.length) return change(from, 0, [bit]);
+  change(from, count, old => old.map(frame => press ? frame | bit : frame & ~bit), place => `${press ? "press" : "release"} ${place} ${count} ${text(bit)}`, 0);
 }
 
-function undo(kind) {
-  const lines = [];
-  for (const { place, removed, added } of past[kind].pop()?.toReversed() ?? []) {
-    const same = added === removed.length;
-    if (added && !same) lines.push(`delete ${place} ${added}`);
-    for (const { frame, count, from } of runs(removed)) lines.push(`${same ? "replace" : "insert"} ${place + from} ${count} ${frame}`);
-  }
-  if (lines.length) change(lines, kind);
+function repeat() {
+  const { from, to } = view, count = to - from, times = $("times").value;
+  change(from, count, old => Uint16Array.from({ length: count * times + count }, (_, index) => old[index % count]), place => `repeat ${place} ${count} ${times}`, count * times);
+}
+
+function paste(words) {
+  const put = words.trim().split("\n").map(line => parse(line.trim())), long = put.reduce((sum, part) => sum + part?.count, 0);
+  if (isNaN(long)) return say("What was copied isn’t lines of a movie’s text.");
+  if (long > 262144) return say("What was copied has more than 262,144 frames.");
+  change(view.from, 0, put.flatMap(({ frame, count }) => new Array(count).fill(frame)));
 }
 
 function play() {
-  player.on = !player.on && view.cursor < view.movie.length;
-  Object.assign(player, { next: view.cursor, due: view.cursor, start: null });
+  Object.assign(player, { on: !player.on && view.cursor < view.movie.length, next: view.cursor, due: view.cursor, start: null });
   view.anchor = view.cursor;
-  if (player.on) requestAnimationFrame(step);
+  if (player.on) requestAnimationFrame(tick);
   wake();
 }
 
 /** Shows the frame that the clock is at, 60 a second. Where its picture hasn't come yet, the clock waits. */
-function step(now) {
+function tick(now) {
   if (!player.on) return;
   const frame = player.start === null ? player.due : player.from + Math.floor((now - player.start) * .06 + .5), picture = frame < player.next && album.get(frame);
   if (picture && frame >= player.due) {
@@ -298,27 +332,18 @@ function step(now) {
     wake();
   } else if (frame >= player.due) player.start = null;
   player.on = player.due < view.movie.length && (!picture || picture.words[0] === "picture");
-  if (player.on) requestAnimationFrame(step);
+  if (player.on) requestAnimationFrame(tick);
   else tell();
 }
 
 const report = promise => promise.then(words => say(words, true), failed => say(failed.message));
 const actions = {
-  play, undo: () => undo("undo"), redo: () => undo("redo"), save: () => report(save()),
-  insert: () => change([`insert ${view.from} ${Math.max(view.to - view.from, 1)} ..... ..... .....`]),
-  remove() {
-    const { from, to } = view;
-    if (from < to) change([`delete ${from} ${to - from}`]);
-    move(from);
-  },
-  repeat: () => change([`repeat ${view.from} ${view.to - view.from} ${$("times").value}`]),
-  begin: () => change(["begin"]), commit: () => change(["commit"]), drop: () => change(["drop"]),
-  again: () => [["drop"], ["begin"], ...view.draft.lines.map(line => [line])].forEach(lines => change(lines)),
+  play, repeat, undo: () => want({ kind: "undo" }), redo: () => want({ kind: "redo" }), save: () => report(save()),
+  insert: () => change(view.from, 0, new Uint16Array(Math.max(view.to - view.from, 1))),
+  remove() { const { from, to } = view; if (from < to) change(from, to - from, []); move(from); },
+  begin: () => want({ run: begin }), commit: () => want({ run: commit }), drop: () => want({ run: drop }),
   fill() { filled = filled < 0 ? 0 : -1; wake(); },
-  film() {
-    say("The film is being made …", true);
-    report(view.to - view.from > 1 ? film(view.from, view.to) : film(0, view.movie.length));
-  },
+  film() { say("The film is being made …", true); report(view.to - view.from > 1 ? film(view.from, view.to) : film(0, view.movie.length)); },
 };
 for (const [id, action] of Object.entries(actions)) $(id).addEventListener("click", action);
 
@@ -343,13 +368,7 @@ for (const kind of ["copy", "cut"]) addEventListener(kind, event => {
   event.clipboardData.setData("text/plain", runs(view.movie.slice(view.from, view.to)).map(({ line }) => line).join(""));
   if (kind === "cut") actions.remove();
 });
-addEventListener("paste", event => {
-  if (event.target.matches?.("input")) return;
-  const put = event.clipboardData.getData("text/plain").trim().split("\n").map(line => frames(line.trim()));
-  if (put.some(each => !each.length)) return say("What was copied isn’t lines of a movie’s text.");
-  let place = view.from;
-  change(put.map(each => `insert ${(place += each.length) - each.length} ${each.length} ${text(each[0])}`));
-});
+addEventListener("paste", event => event.target.matches?.("input") || paste(event.clipboardData.getData("text/plain")));
 $("goto").addEventListener("change", () => move(Number($("goto").value)));
 $("names").addEventListener("change", () => { localStorage.setItem(view.base.head, $("names").value); shown.ram = -1; });
 $("roll").focus({ preventScroll: true });
