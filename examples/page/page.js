@@ -91,8 +91,8 @@ function meet(change) {
   view.others.push({ place, end: place + Math.max(count + more, 1), until: performance.now() + 3000 });
   if (view.draft) return view.draft.others.push(change);
   for (const wish of [doing ?? [], ...wishes]) if (wish.steps && !carry(wish.steps, { ...change })) wish.clash = true;
-  for (const key of ["cursor", "anchor"]) view[key] = along(view[key]);
   roll.follow(along, more);
+  for (const key of ["cursor", "anchor"]) view[key] = along(view[key]);
 }
 
 /** Catches up with the desk: what this page and others have edited is made in this page's copy, too. Returns whether there is more. */
