@@ -215,7 +215,7 @@ async function look() {
 /** The frames of the next steps whose pictures aren't there; none where there are enough. */
 function ahead() {
   const { cursor, movie } = view, next = Array.from({ length: STRIP }, (_, index) => cursor + way * (index + 1)).find(frame => !album.has(frame));
-  if (!way || Math.abs(next - cursor) > STRIP / 2 || next < 0 || next >= movie.length) return [];
+  if (!way || !(Math.abs(next - cursor) <= STRIP / 2) || next < 0 || next >= movie.length) return [];
   return way > 0 ? [next, Math.min(next + STRIP, movie.length)] : [Math.max(0, next + 1 - STRIP), next + 1];
 }
 
@@ -252,7 +252,7 @@ async function next() {
   if (player.on && player.next - player.due < 2 * STRIP && player.next < view.movie.length) return strip();
   if (!player.on && shown.frame !== view.cursor) return look();
   if (now - heard > 250) return turn();
-  if (!player.on && after.length) return pictures(...after);
+  if (!player.on && after.length && now - moved < 2000) return pictures(...after);
   if (player.on || now - moved < 60) return false;
   if (shown.ram !== view.cursor) return ram();
   if (shown.states < 0 || now - shown.states > 2000) return keep((await turn("states"))[0]);
