@@ -173,6 +173,7 @@ fn hold_beside<N: Name, R: Wait + Abort>(rt: &R, alloc: Global, unopened: Unopen
     let file = journal.into_file().taker.taken;
     let wanted = first_parts(rt, alloc, &TWO, 3);
     check_that(rt, "file", file.as_slice() == wanted.as_slice());
+    check_that(rt, "all seats come back", desk.whole(seats.as_slice()));
     drop(desk.close(rt, seats));
 }
 

@@ -159,6 +159,7 @@ fn hold_at<'a, N: Name, R: Wait + Abort>(
         Err(fault) => (Vec::new(alloc), Some(AnswerFault::Journal(fault))),
     };
     let refused = heap.has_refused();
+    check_that(rt, "all seats come back", desk.whole(seats.as_slice()));
     let closed = desk.close(rt, seats);
     Left {
         file,
