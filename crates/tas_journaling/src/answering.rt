@@ -1,6 +1,6 @@
 //! Answers that wait for the journal.
 
-ghost use Rattle.std.specs.Prelude.{◌≡◌};
+ghost use Rattle.std.specs.Prelude.{◌≡◌, Some};
 ghost use Rattle.tas_seat.specs.Conversations.{talking};
 ghost use Rattle.tas_journaling.specs.Answers.{IsNotedAnswer};
 
@@ -56,10 +56,13 @@ pub fn answer_noted<
     // answer is out, whole or in part; each line is there once, in order, and nothing else is. Where the journal fails,
     // nothing of the answer is out, and the file has the old lines and some first bytes of the next ones. As the writers of
     // answers and journal may fail at each byte, so it is at each moment.
-    // Refused: answer_goes_out_before_its_entry, answer_goes_out_after_a_failed_journal,
-    // refusal_of_the_journal_comes_after_the_first_byte.
-    ensures { IsNotedAnswer (talking seat.old draft.old) (talking seat.new draft.new) request
+    // Refused: answer_goes_out_before_its_entry, refusal_of_the_journal_comes_after_the_first_byte.
+    ensures answer { IsNotedAnswer (talking seat.old draft.old) (talking seat.new draft.new) request
         journal.old journal.new (W.contents output.old) (W.contents output.new) result }
+    // A journal that failed before stays as it is, and nothing of an answer goes out.
+    // Refused: answer_goes_out_after_a_failed_journal.
+    ensures failed { (fault : JournalFault) → journal.old.fault ≡ Some fault
+        → (journal.new ≡ journal.old) × (W.contents output.new ≡ W.contents output.old) }
 {
     let found = match answer_talk(rt, alloc, desk, seat, draft, request) {
         Ok(found) => found,

@@ -7,8 +7,8 @@ use Rattle.tas_seat.proofs.TalkLemmas.{counted_from_nothing}
 use Rattle.tas_journaling.proofs.NoteLemmas.{falls_short_from, keeps_up_from}
 use Rattle.tas_journaling.proofs.answering.answer_noted.Goals as goal
 
-pub returns-in-Err-note : goal.returns-in-Err-note
-returns-in-Err-note g c =
+pub returns-in-Err-note-clause-answer : goal.returns-in-Err-note-clause-answer
+returns-in-Err-note-clause-answer g c =
     let answered = rw c.in-Some.is at c.in-Ok.ensures.answer in (
       c.in-Some.bytes.items,
       record { seat = c.answer_talk.new.seat; answered = answered; shown = c.in-Err-note.ensures.seat },
@@ -16,8 +16,8 @@ returns-in-Err-note g c =
       falls_short_from (talking c.args.seat.now c.args.draft.now) (talking c.answer_talk.new.seat c.answer_talk.new.draft) c.note.new.seat c.args.request c.in-Some.bytes.items c.args.journal.now c.note.new.self c.in-Err-note.fault answered c.in-Err-note.ensures.fault,
     )
 
-pub returns-in-Err-write_counted : goal.returns-in-Err-write_counted
-returns-in-Err-write_counted g c =
+pub returns-in-Err-write_counted-clause-answer : goal.returns-in-Err-write_counted-clause-answer
+returns-in-Err-write_counted-clause-answer g c =
     let answered = rw c.in-Some.is at c.in-Ok.ensures.answer in (
       c.in-Some.bytes.items,
       record { seat = c.answer_talk.new.seat; answered = answered; shown = c.in_default-note.ensures.seat },
@@ -26,8 +26,8 @@ returns-in-Err-write_counted g c =
       keeps_up_from (talking c.args.seat.now c.args.draft.now) (talking c.answer_talk.new.seat c.answer_talk.new.draft) c.note.new.seat c.args.request c.in-Some.bytes.items c.args.journal.now c.note.new.self answered c.in_default-note.ensures.done,
     )
 
-pub returns : goal.returns
-returns g c =
+pub returns-clause-answer : goal.returns-clause-answer
+returns-clause-answer g c =
     let answered = rw c.in-Some.is at c.in-Ok.ensures.answer in (
       c.in-Some.bytes.items,
       record { seat = c.answer_talk.new.seat; answered = answered; shown = c.in_default-note.ensures.seat },
