@@ -17,3 +17,4 @@ pub mod ReachLemmas
 pub mod LimitLemmas
 pub mod CodeLemmas
 pub mod ExtremeLemmas
+pub mod PartLemmas

@@ -7,7 +7,8 @@ use Rattle.std.proofs.lemmas.Int.Digits.{digits_value_push, digits_push}
 use Rattle.std.proofs.lemmas.Str.{digit_value_digit}
 use Rattle.std.proofs.lemmas.Str.Parse.{digit_at}
 use Rattle.std.proofs.lemmas.Bool.{cases_eq}
-use Rattle.std.proofs.Math.Nat.{mul-le-mul, pow-zero, pow-suc, pow-succ'}
+use Rattle.std.proofs.Math.Nat.{mul-le-mul, mul_assoc, mul-suc, le-mul_of_pos_right, div-mul-le_self, div-add-mod, pow-zero, pow-suc, pow-succ'}
+use Rattle.std.proofs.lemmas.Nat.{pow-add}
 use Rattle.std.proofs.lemmas.List.{reverse-append, length-reverse, length-append, get_or_append_left}
 use Rattle.tas_search.specs.Power.{IsDecimal}
 use Rattle.tas_search.specs.Inside.Digits.{low_value, HasTop, IsLow, IsTopped}
@@ -219,14 +220,78 @@ one_low b ds e = subst (λ (xs : List ℕ). IsLow xs (b ^ 0)) (sym e) (record { 
 pub own_value : (ds : List ℕ) (n : ℕ) → IsLow ds n → IsLow ds (low_value ds)
 own_value ds n h = record { all = h.all; value = refl; top = h.top }
 
-pub raised : (ds new : List ℕ) (b k : ℕ) → IsLow ds (b ^ k) → IsLow new (low_value ds * b) → IsLow new (b ^ (k + 1))
-raised ds new b k h g = subst (IsLow new) (ap (λ (n : ℕ). n * b) h.value ∙ more) g
+pub raised : (ds new : List ℕ) (n f k : ℕ) → IsLow ds (n * f ^ k) → IsLow new (low_value ds * f) → IsLow new (n * f ^ (k + 1))
+raised ds new n f k h g = subst (IsLow new) (ap (λ (v : ℕ). v * f) h.value ∙ mul_assoc n (f ^ k) f ∙ ap (λ (v : ℕ). n * v) more) g
   where
     next : suc k ≡ k + 1
     next = omega arith
 
-    more : b ^ k * b ≡ b ^ (k + 1)
-    more = sym (pow-suc b k) ∙ ap (λ (n : ℕ). b ^ n) next
+    more : f ^ k * f ≡ f ^ (k + 1)
+    more = sym (pow-suc f k) ∙ ap (λ (n : ℕ). f ^ n) next
+
+pub not_raised : (ds : List ℕ) (f : ℕ) → IsLow ds (low_value ds) → IsLow ds (low_value ds * f ^ 0)
+not_raised ds f h = subst (IsLow ds) one h
+  where
+    same : (n : ℕ) → n ≡ n * 1
+    same n = omega arith
+
+    one : low_value ds ≡ low_value ds * f ^ 0
+    one = same (low_value ds) ∙ ap (λ (k : ℕ). low_value ds * k) (sym (pow-zero f))
+
+pow_of_pow : (base size n : ℕ) → (base ^ size) ^ n ≡ base ^ (size * n)
+pow_of_pow base size zero = pow-zero (base ^ size) ∙ sym (ap (λ (k : ℕ). base ^ k) none ∙ pow-zero base)
+  where
+    none : size * 0 ≡ 0
+    none = omega arith
+pow_of_pow base size (suc n) =
+    pow-suc (base ^ size) n
+    ∙ ap (λ (k : ℕ). k * base ^ size) (pow_of_pow base size n)
+    ∙ sym (pow-add base (size * n) size)
+    ∙ ap (λ (k : ℕ). base ^ k) (sym (mul-suc size n))
+
+-- a power of a power, and what is left
+pub power_split : (base factor size exponent : ℕ) → factor ≡ base ^ size → (1 * factor ^ (exponent / size)) * base ^ (exponent % size) ≡ base ^ exponent
+power_split base factor size exponent is =
+    ap (λ (n : ℕ). n * base ^ (exponent % size)) (same (factor ^ (exponent / size)) ∙ ap (λ (n : ℕ). n ^ (exponent / size)) is ∙ pow_of_pow base size (exponent / size))
+    ∙ sym (pow-add base (size * (exponent / size)) (exponent % size))
+    ∙ ap (λ (n : ℕ). base ^ n) (div-add-mod exponent size)
+  where
+    same : (n : ℕ) → 1 * n ≡ n
+    same n = omega arith
+
+pub power_whole : (one most all : List ℕ) (base factor size exponent : ℕ) → one ≡ 49 ∷ [] → factor ≡ base ^ size → IsLow most (low_value one * factor ^ (exponent / size))
+    → IsLow all (low_value most * base ^ (exponent % size)) → IsLow all (base ^ exponent)
+power_whole one most all base factor size exponent is power h g =
+    subst (IsLow all)
+    (ap (λ (n : ℕ). n * base ^ (exponent % size)) (h.value ∙ ap (λ (ds : List ℕ). low_value ds * factor ^ (exponent / size)) is) ∙ power_split base factor size exponent power) g
+
+pub first_power : (base : ℕ) → base ≡ base ^ 1
+first_power base = one ∙ ap (λ (n : ℕ). n * base) (sym (pow-zero base)) ∙ sym (pow-suc base 0)
+  where
+    one : base ≡ 1 * base
+    one = omega arith
+
+-- a power's factor once more
+pub factor_more : (base factor exponent : ℕ) → factor ≡ base ^ exponent → factor * base ≡ base ^ (exponent + 1)
+factor_more base factor exponent is = ap (λ (n : ℕ). n * base) is ∙ sym (pow-suc base exponent) ∙ ap (λ (n : ℕ). base ^ n) next
+  where
+    next : suc exponent ≡ exponent + 1
+    next = omega arith
+
+pub factor_high : (base factor most : ℕ) → factor ≤ most / base → factor * base ≤ most
+factor_high base factor most le = le-trans (factor * base) ((most / base) * base) most (mul-le-mul le (same base)) (div-mul-le_self most base)
+  where
+    same : (n : ℕ) → n ≤ n
+    same n = omega arith
+
+    le-trans : (a b c : ℕ) → a ≤ b → b ≤ c → a ≤ c
+    le-trans a b c h g = omega arith
+
+pub factor_low : (base factor : ℕ) → 0 < base → 0 < factor → 0 < factor * base
+factor_low base factor b f = omega (arith, more)
+  where
+    more : factor ≤ factor * base
+    more = le-mul_of_pos_right factor b
 
 -- the text of digits, the highest first
 pub text_reversed : (ds text : List ℕ) (n : ℕ) → IsLow ds n → text ≡ reverse ds → IsDecimal text n

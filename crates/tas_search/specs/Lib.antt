@@ -7,6 +7,7 @@ pub mod GoalText
 pub mod NamesFile
 pub mod ChoicesFile
 pub mod StickChoices
+pub mod Parts
 pub mod Outcome
 pub mod Power
 pub mod GoalAnswer

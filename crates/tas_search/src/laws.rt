@@ -1,6 +1,9 @@
 //! Laws of the definitions.
 
-ghost use Rattle.std.specs.Prelude.{◌≡◌, ℕ, ◌<◌, List, ◌∷◌, ◌++◌, length};
+ghost use Rattle.std.specs.Prelude.{◌≡◌, ℕ, ◌<◌, Bool, List, ◌∷◌, ◌++◌, length};
+ghost use Rattle.vcs_machine.specs.Machine.{Machine};
+ghost use Rattle.tas_search.specs.Best.{IsShortest};
+ghost use Rattle.tas_search.specs.Parts.{IsBestPart};
 ghost use Rattle.tas_search.specs.declared.expression.Expression.{Expression};
 ghost use Rattle.tas_search.specs.declared.goal.GoalKind.{GoalKind};
 ghost use Rattle.tas_search.specs.Expression.{value_of};
@@ -29,4 +32,13 @@ pub fn one_value_per_tree()
     // Refused: none, they are laws of the definitions and have no code.
     ensures { (a b : Expression) (ram : List ℕ)
         → tree_of a ≡ tree_of b → value_of a ram ≡ value_of b ram }
+{}
+
+/// The best of the parts of a space, a part for each first choice, is the whole's.
+pub fn best_part_is_best()
+    // So a space can be searched in parts, one after the other or on several machines: where the start doesn't meet the goal, the part whose
+    // shortest sequence has the fewest choices, and of those with as few the first, has the shortest sequence of all.
+    // Refused: none, it is a law of the definitions and has no code.
+    ensures { (space : SpaceContent) (goal : Machine → Bool) (k : ℕ) (ks : List ℕ)
+        → IsBestPart space goal k ks → IsShortest space goal (k ∷ ks) }
 {}

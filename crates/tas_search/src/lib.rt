@@ -39,7 +39,9 @@ pub use extremes::{Aim, find_extreme};
 pub use formula::Formula;
 pub use goal::{Goal, GoalFault, GoalKind, read_goal};
 pub use goal_search::find_goal;
-pub use laws::{first_difference_decides, one_goal_per_text, one_value_per_tree};
+pub use laws::{
+    best_part_is_best, first_difference_decides, one_goal_per_text, one_value_per_tree,
+};
 pub use measure::Measure;
 pub use movie_search::{SearchFault, SearchRange, search_movie};
 pub use name::Name;
