@@ -31,7 +31,7 @@ use Rattle.vcs_tia.specs.contracts.playfield.PlayfieldPartialEq.TheImpl as playf
 use Rattle.vcs_tia.specs.contracts.units.CopiesPartialEq.TheImpl as copies
 use Rattle.vcs_tia.specs.contracts.units.WidthPartialEq.TheImpl as width
 
-same_copies : (a b : Copies) → copies.ghosts.eq a b ≡ true → a ≡ b
+pub same_copies : (a b : Copies) → copies.ghosts.eq a b ≡ true → a ≡ b
 same_copies One One h = refl
 same_copies TwoClose TwoClose h = refl
 same_copies TwoMedium TwoMedium h = refl
@@ -42,7 +42,7 @@ same_copies ThreeMedium ThreeMedium h = refl
 same_copies QuadSize QuadSize h = refl
 same_copies _ _ h = absurd (false≢true h)
 
-same_width : (a b : Width) → width.ghosts.eq a b ≡ true → a ≡ b
+pub same_width : (a b : Width) → width.ghosts.eq a b ≡ true → a ≡ b
 same_width wide.One wide.One h = refl
 same_width wide.Two wide.Two h = refl
 same_width wide.Four wide.Four h = refl
@@ -115,7 +115,7 @@ same_playfield a b h0 =
       priority = (booleans_Decides a.priority b.priority).0 h5 i;
     }
 
-same_colours : (a b : Colours) → colours.ghosts.eq a b ≡ true → a ≡ b
+pub same_colours : (a b : Colours) → colours.ghosts.eq a b ≡ true → a ≡ b
 same_colours a b h0 =
     let h1 = second_so _ _ h0 in
     let h2 = second_so _ _ h1 in
