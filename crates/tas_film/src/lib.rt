@@ -16,4 +16,4 @@ pub use film::{FilmStop, write_film};
 pub use gate::Gate;
 pub use pixmaps::HaltedFrame;
 pub use runs::{ExportPlan, MAX_WORKERS};
-pub use threads::for_each_on_threads;
+pub use threads::{Visitor, for_each_on_threads};

@@ -13,7 +13,7 @@ ghost use Rattle.tas_film.specs.Runs.{most_workers, first_of_run, IsPlan, IsRunE
 use crate::Gate;
 use crate::drawing::{draw_frames, play_up_to};
 use crate::pixmaps::{Pixmaps, Stop};
-use crate::threads::for_each_on_threads;
+use crate::threads::{Visitor, for_each_on_threads};
 use std::alloc::{AllocError, Allocator};
 use std::thread::Threads;
 use tas_green::Green;
@@ -136,26 +136,30 @@ fn both(front: RunEnd, back: RunEnd) -> RunEnd
     }
 }
 
-impl<A: Allocator> Run<A> {
+/// What draws the runs of an export.
+#[derive(Drop)]
+struct Player<'a, A: Allocator, G: Gate> {
+    movie: &'a Movie<A>,
+    zone: &'a Green<A>,
+    gate: &'a G,
+    plan: ExportPlan,
+}
+
+impl<'a, A: Allocator, G: Gate> Visitor<Run<A>> for Player<'a, A, G> {
+    ghost accepts = { λ it number run. IsPlan it.movie.now it.plan
+        × IsLawful it.movie.now it.zone.now × (number < it.plan.workers) × (run.pixmaps ≡ []) };
+
+    ghost changes = { λ it number _ run. IsRunEnd it.movie.now it.zone.now
+        (first_of_run it.plan number) (first_of_run it.plan (number + 1)) run.pixmaps run.end };
+
     /// Passes the gate and draws the frames of the run with this number.
-    fn play<G: Gate>(
-        &mut self,
-        movie: &Movie<A>,
-        zone: &Green<A>,
-        gate: &G,
-        plan: ExportPlan,
-        number: usize,
-    )
-        requires plan { IsPlan movie.now plan }
-        requires lawful { IsLawful movie.now zone.now }
-        requires number { number < plan.workers }
-        requires empty { self.old.pixmaps ≡ [] }
-        ensures { IsRunEnd movie.now zone.now (first_of_run plan number)
-            (first_of_run plan (number + 1)) self.new.pixmaps self.new.end }
-    {
-        let first = plan.first_of_run(number);
-        let next = plan.first_of_run(number + 1);
-        self.end = play_run(movie, zone, gate, number, first, next, &mut self.pixmaps);
+    fn visit(&self, number: usize, run: &mut Run<A>) {
+        let first = self.plan.first_of_run(number);
+        let next = self.plan.first_of_run(number + 1);
+        let pixmaps = &mut run.pixmaps;
+        run.end = play_run(
+            self.movie, self.zone, self.gate, number, first, next, pixmaps,
+        );
     }
 }
 
@@ -177,13 +181,13 @@ fn play_each<A: Allocator + Send + Sync, R: Threads + Sync, G: Gate + Sync>(
         → IsRunEnd movie.now zone.now (first_of_run plan i) (first_of_run plan (i + 1))
         (slice_index_or runs.new i d).pixmaps (slice_index_or runs.new i d).end }
 {
-    let play = move |number: usize, run: &mut Run<A>|
-        requires { IsPlan movie.now plan × IsLawful movie.now zone.now × (number < plan.workers)
-            × (run.now.pixmaps ≡ []) }
-        ensures { IsRunEnd movie.entry.now zone.entry.now (first_of_run plan number)
-            (first_of_run plan (number + 1)) run.exit.now.pixmaps run.exit.now.end }
-    { run.play(movie, zone, gate, plan, number) };
-    for_each_on_threads(rt, runs, &play);
+    let player = Player {
+        movie,
+        zone,
+        gate,
+        plan,
+    };
+    for_each_on_threads(rt, runs, &player);
 }
 
 /// Draws all runs, each on a thread of its own where one can be started, and returns what they did.

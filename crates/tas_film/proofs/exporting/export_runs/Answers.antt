@@ -1,5 +1,4 @@
-use Rattle.std.proofs.lemmas.Grind.{common_steps}
-use Rattle.std.proofs.Common.{◌≡◌, ◌-◌, ◌∙◌, ap, subst, refl, ℕ, List, length, Some, arith, rules}
+use Rattle.std.proofs.Common.{◌≡◌, ◌-◌, ap, subst, refl, ℕ, List, length, Some, arith, rules}
 use Rattle.std.specs.Io.KnownBytes.{Appends}
 use Rattle.byte_text.specs.CutOff.{IsCutOff}
 use Rattle.tas_film.specs.declared.pixmaps.Stop.TheVariants.{Halted, Memory}
