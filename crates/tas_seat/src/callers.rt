@@ -1,8 +1,6 @@
 //! Seats with their doors.
 //!
-//! Several conversations take any allocator that threads may share, so tests refuse each growth of a whole desk. That a
-//! thread's work may cross to it is proved part by part in `converse_all`: the prover's search finds it for one
-//! allocator, and gives up over any.
+//! Several conversations take any allocator that threads may share, so tests refuse each growth of a whole desk.
 
 ghost use Rattle.std.specs.Prelude.{◌≡◌, ℕ, ◌<◌, length, slice_index_or};
 ghost use Rattle.tas_seat.specs.Lines.{WasHeld, seat_end};
@@ -13,7 +11,7 @@ use std::sync::Wait;
 use std::thread::Threads;
 use tas_desk::{CloseOnDrop, Desk, Name, Seat};
 use tas_engines::{RunFault, SeatFault, ToolFault};
-use tas_film::for_each_on_threads;
+use tas_film::{Visitor, for_each_on_threads};
 
 /// A seat, the door to its other end, and how its conversation ended.
 #[derive(Drop)]
@@ -24,16 +22,6 @@ pub struct Caller<N: Name, D, A: Allocator = Global> {
     pub door: D,
     /// How the conversation ended; `Ok` before it is held.
     pub end: Result<(), SeatFault>,
-}
-
-impl<N: Name, D: Door + Drop, A: Allocator + Copy> Caller<N, D, A> {
-    /// Opens the door, holds the conversation, and closes the door.
-    fn converse<C: CloseOnDrop, T: Wait>(&mut self, rt: &T, alloc: A, desk: &Desk<N, C, A>)
-        ensures held { WasHeld D.facts self.old.door self.new.door self.old.seat self.new.seat
-            self.new.end }
-    {
-        self.end = hold(rt, alloc, desk, &mut self.seat, &mut self.door);
-    }
 }
 
 /// How a conversation's end is reported as its seat's.
@@ -53,22 +41,36 @@ pub fn seat_end(end: Result<(), ToolFault>) -> Result<(), SeatFault>
     }
 }
 
-/// Opens a door, holds a seat's conversation, and closes the door.
-fn hold<N: Name, C: CloseOnDrop, A: Allocator + Copy, T: Wait, D: Door + Drop>(
-    rt: &T,
+/// The desk at which callers hold their conversations.
+#[derive(Drop)]
+struct Host<'a, N: Name, C: CloseOnDrop, A: Allocator, T: Wait> {
+    rt: &'a T,
     alloc: A,
-    desk: &Desk<N, C, A>,
-    seat: &mut Seat<N, A>,
-    door: &mut D,
-) -> Result<(), SeatFault>
-    ensures { WasHeld D.facts door.old door.new seat.old seat.new result }
-{
-    let Ok((mut input, mut output)) = door.open() else {
-        return Err(SeatFault::NotOpened);
-    };
-    let end = converse(rt, alloc, desk, seat, &mut input, &mut output);
-    door.close(input, output);
-    seat_end(end)
+    desk: &'a Desk<N, C, A>,
+}
+
+impl<'a, N: Name, C: CloseOnDrop, A: Allocator + Copy, T: Wait, D: Door + Drop> Visitor<
+    Caller<N, D, A>,
+> for Host<'a, N, C, A, T> {
+    ghost use Rattle.std.specs.Prelude.{⊤};
+    ghost use Rattle.tas_seat.specs.Lines.{WasHeld};
+
+    ghost accepts = { λ _ _ _. ⊤ };
+
+    ghost changes = { λ _ _ last next. WasHeld D.facts last.door next.door last.seat next.seat
+        next.end };
+
+    /// Opens the caller's door, holds its conversation, and closes the door.
+    fn visit(&self, _number: usize, caller: &mut Caller<N, D, A>) {
+        let Ok((mut input, mut output)) = caller.door.open() else {
+            caller.end = Err(SeatFault::NotOpened);
+            return;
+        };
+        let (seat, desk) = (&mut caller.seat, self.desk);
+        let end = converse(self.rt, self.alloc, desk, seat, &mut input, &mut output);
+        caller.door.close(input, output);
+        caller.end = seat_end(end);
+    }
 }
 
 /// Holds all conversations, each on a thread of its own. One whose thread can't be started is held by this thread, once those after it
@@ -89,9 +91,6 @@ pub fn converse_all<
         (slice_index_or callers.new k d).door (slice_index_or callers.old k d).seat
         (slice_index_or callers.new k d).seat (slice_index_or callers.new k d).end }
 {
-    let hold = move |_number: usize, caller: &mut Caller<N, D, A>|
-        ensures { WasHeld D.facts caller.entry.now.door caller.exit.now.door
-            caller.entry.now.seat caller.exit.now.seat caller.exit.now.end }
-    { caller.converse(rt, alloc, desk) };
-    for_each_on_threads(rt, callers, &hold);
+    let host = Host { rt, alloc, desk };
+    for_each_on_threads(rt, callers, &host);
 }
