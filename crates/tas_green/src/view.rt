@@ -1,8 +1,8 @@
 //! A movie with its kept states and its window: lawful by its type, with room for all states that it may keep.
 //!
-//! A view takes all its room when it is made, as a movie does: 513 states and 99 of the window, 230 KB beside 3.9 MB of
+//! A view takes all its room when it is made, as a movie does: 513 states and 99 of the window, 127 KB beside 3.9 MB of
 //! inputs. So no look is out of memory, and no call but `gain` has a condition on states. The room is for one state
-//! more than is kept: a proof that a state to be put in is there already isn't worth 376 bytes.
+//! more than is kept: a proof that a state to be put in is there already isn't worth 208 bytes.
 //!
 //! `picture` and `state` leave the kept states as if played from the nearest of these: where a place of the grid comes
 //! after it, up to the window's, they start at the kept one, which comes only where the grid got finer. `follow`

@@ -10,7 +10,7 @@ ghost use Rattle.tas_green.specs.Window.{most_near, is_near, is_gained, AreNear,
 
 use crate::playing::Span;
 use crate::window::{MARK_DISTANCE, MAX_BEFORE, MAX_MARKED, ReachedState, Viewed};
-use crate::zone::{put, put_on_grid};
+use crate::zone::{keep_on_grid, put};
 use crate::{Savestate, stride};
 use std::alloc::Allocator;
 use tas_movie::Movie;
@@ -45,18 +45,20 @@ fn retain_near<A: Allocator>(states: &mut Vec<Savestate, A>, end: usize)
     states.retain(|kept| is_near(end, kept.frame));
 }
 
-/// Puts a state in its place, where this is near another one and no state is there yet. There is room for it.
-fn put_near<A: Allocator>(states: &mut Vec<Savestate, A>, kept: &Savestate, end: usize)
+/// Puts the state after `frame` frames in its place, where this is near another one and no state is there yet. It is packed only
+/// there. There is room for it.
+fn keep_near<A: Allocator>(states: &mut Vec<Savestate, A>, frame: usize, state: &State, end: usize)
     requires rising { IsRising 0 states.old.items }
-    requires positive { 0 < kept.now.frame }
+    requires positive { 0 < frame }
     requires room { vec_len states.old < vec_capacity states.old }
     ensures rising { IsRising 0 states.new.items }
     ensures states { (f : ℕ) → state_at f states.new.items ≡ first_of (state_at f states.old.items)
-        (where_true (is_near end kept.now.frame && (kept.now.frame == f)) (Some kept.now.state)) }
+        (where_true (is_near end frame && (frame == f)) (Some state.now)) }
     ensures capacity { vec_capacity states.old ≤ vec_capacity states.new }
 {
-    if is_near(end, kept.frame) {
-        put(states, *kept);
+    if is_near(end, frame) {
+        let state = state.pack();
+        put(states, Savestate { frame, state });
     }
 }
 
@@ -99,16 +101,12 @@ fn pass_both<A: Allocator, B: Allocator, C: Allocator>(
     ensures window_capacity { vec_capacity window.old ≤ vec_capacity window.new }
     ensures meter { meter.new ≡ meter.old + (span.end - span.start.frame) }
 {
-    let mut state = span.start.state;
+    let mut state = span.start.state.unpack();
     for frame in span.start.frame..span.end {
         // A halted machine stays as it is: its state has the halt.
         let _ = play_unseen(cart, &mut state, inputs[frame], meter);
-        let kept = Savestate {
-            frame: frame + 1,
-            state,
-        };
-        put_near(window, &kept, place);
-        put_on_grid(green, kept, span.end, span.stride);
+        keep_near(window, frame + 1, &state, place);
+        keep_on_grid(green, frame + 1, &state, span.end, span.stride);
     }
     state
 }
@@ -155,12 +153,8 @@ fn play_both<A: Allocator, B: Allocator, C: Allocator, D: Allocator>(
     let before = Span { end: last, ..span };
     let mut state = pass_both(cart, inputs, before, place, green, window, &mut meter);
     let end = play(cart, &mut state, inputs[last], picture, &mut meter);
-    let kept = Savestate {
-        frame: place,
-        state,
-    };
-    put_near(window, &kept, place);
-    put_on_grid(green, kept, place, step);
+    keep_near(window, place, &state, place);
+    keep_on_grid(green, place, &state, place, step);
     Viewed {
         ran: meter.count(),
         end,

@@ -1,4 +1,4 @@
-use Rattle.std.proofs.Common.{◌≡◌, ℕ, ◌+◌, ◌-◌, ◌/◌, ◌<◌, ◌≤◌, length, take, subst, vec_len, arith}
+use Rattle.std.proofs.Common.{◌≡◌, ◌∙◌, ℕ, ◌+◌, ◌/◌, ◌<◌, ◌≤◌, length, take, subst, vec_len, arith}
 use Rattle.vcs_machine.specs.Machine.{after}
 use Rattle.tas_green.proofs.RunLemmas.{HasKept, grid_test, near_test, after_more, kept_none, kept_more, most_more, room_now}
 use Rattle.tas_green.proofs.WindowLemmas.{few_near, near_kept}
@@ -6,7 +6,7 @@ use Rattle.tas_green.proofs.viewing.pass_both.Goals as goal
 
 pub loop-frame-init : goal.loop-frame-init
 loop-frame-init g c = record {
-  state = c.requires.start;
+  state = c.unpack-state.ensures ∙ c.requires.start;
   rising = c.requires.rising;
   passed = kept_none (grid_test c.args.span.stride) c.args.green.now.items c.args.cart.now c.args.inputs.now c.args.span.start.frame;
   most = omega arith;
@@ -17,11 +17,11 @@ loop-frame-init g c = record {
   meter = omega arith;
 }
 
-pub put_on_grid-requires-clause-room : goal.put_on_grid-requires-clause-room
-put_on_grid-requires-clause-room g c = room_now c.args.span.stride c.loop-frame.frame c.args.span.end _ _ c.requires.stride (omega (arith, c.loop-frame-test.true)) (omega (arith, c.requires.room, c.loop-frame.invariant.most, c.loop-frame.invariant.capacity))
+pub keep_on_grid-requires-clause-room : goal.keep_on_grid-requires-clause-room
+keep_on_grid-requires-clause-room g c = room_now c.args.span.stride c.loop-frame.frame c.args.span.end _ _ c.requires.stride (omega (arith, c.loop-frame-test.true)) (omega (arith, c.requires.room, c.loop-frame.invariant.most, c.loop-frame.invariant.capacity))
 
-pub put_near-requires-clause-room : goal.put_near-requires-clause-room
-put_near-requires-clause-room g c =
+pub keep_near-requires-clause-room : goal.keep_near-requires-clause-room
+keep_near-requires-clause-room g c =
     let near = near_kept c.args.place c.args.span.start.frame c.loop-frame.frame c.args.cart.now c.args.inputs.now c.args.window.now.items c.loop-frame.window.items c.requires.window_near c.loop-frame.invariant.filled (omega (arith, c.loop-frame-test.true, c.requires.place)) in
     let few = few_near c.args.place c.loop-frame.window.items c.loop-frame.invariant.window_rising near in
     omega (arith, few, c.requires.window_room, c.loop-frame.invariant.window_capacity)
@@ -36,13 +36,13 @@ loop-frame-preserved g c =
     let next : c.play_unseen.new.state ≡ after cart (take (frame + 1) inputs) = after_more cart inputs frame c.loop-frame.state c.play_unseen.new.state _ c.play_unseen.ensures.state c.loop-frame.invariant.state lt in
     record {
       state = next;
-      rising = c.put_on_grid.ensures.rising;
-      passed = kept_more (grid_test c.args.span.stride) c.args.green.now.items c.loop-frame.green.items c.put_on_grid.new.states.items cart inputs c.args.span.start.frame frame c.args.span.end c.play_unseen.new.state c.loop-frame.auto.frame below next c.loop-frame.invariant.passed c.put_on_grid.ensures.states;
-      most = most_more c.args.span.stride frame c.args.span.end _ _ _ _ c.requires.stride below c.loop-frame.invariant.most c.put_on_grid.ensures.most;
-      capacity = omega (arith, c.loop-frame.invariant.capacity, c.put_on_grid.ensures.capacity);
-      window_rising = c.put_near.ensures.rising;
-      filled = kept_more (near_test c.args.place) c.args.window.now.items c.loop-frame.window.items c.put_near.new.states.items cart inputs c.args.span.start.frame frame c.args.place c.play_unseen.new.state c.loop-frame.auto.frame (omega (arith, below, c.requires.place)) next c.loop-frame.invariant.filled c.put_near.ensures.states;
-      window_capacity = omega (arith, c.loop-frame.invariant.window_capacity, c.put_near.ensures.capacity);
+      rising = c.keep_on_grid.ensures.rising;
+      passed = kept_more (grid_test c.args.span.stride) c.args.green.now.items c.loop-frame.green.items c.keep_on_grid.new.states.items cart inputs c.args.span.start.frame frame c.args.span.end c.play_unseen.new.state c.loop-frame.auto.frame below next c.loop-frame.invariant.passed c.keep_on_grid.ensures.states;
+      most = most_more c.args.span.stride frame c.args.span.end _ _ _ _ c.requires.stride below c.loop-frame.invariant.most c.keep_on_grid.ensures.most;
+      capacity = omega (arith, c.loop-frame.invariant.capacity, c.keep_on_grid.ensures.capacity);
+      window_rising = c.keep_near.ensures.rising;
+      filled = kept_more (near_test c.args.place) c.args.window.now.items c.loop-frame.window.items c.keep_near.new.states.items cart inputs c.args.span.start.frame frame c.args.place c.play_unseen.new.state c.loop-frame.auto.frame (omega (arith, below, c.requires.place)) next c.loop-frame.invariant.filled c.keep_near.ensures.states;
+      window_capacity = omega (arith, c.loop-frame.invariant.window_capacity, c.keep_near.ensures.capacity);
       meter = omega (arith, c.play_unseen.ensures.meter, c.loop-frame.invariant.meter, c.loop-frame.auto.frame);
     }
 

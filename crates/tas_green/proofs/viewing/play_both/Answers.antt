@@ -6,14 +6,14 @@ use Rattle.tas_green.proofs.RunLemmas.{HasKept, grid_test, near_test, after_more
 use Rattle.tas_green.proofs.WindowLemmas.{few_near, near_kept}
 use Rattle.tas_green.proofs.viewing.play_both.Goals as goal
 
-pub put_on_grid-requires-clause-room : goal.put_on_grid-requires-clause-room
-put_on_grid-requires-clause-room g c =
+pub keep_on_grid-requires-clause-room : goal.keep_on_grid-requires-clause-room
+keep_on_grid-requires-clause-room g c =
     let last = c.args.span.end - 1 in
     let whole : c.args.span.end - 1 + 1 ≡ c.args.span.end = omega (arith, c.requires.order) in
     rw whole at (room_now c.args.span.stride last c.args.span.end (vec_len c.pass_both-state.new.green) (vec_capacity c.pass_both-state.new.green) c.requires.stride (omega (arith, c.requires.order)) (omega (arith, c.requires.room, c.pass_both-state.ensures.most, c.pass_both-state.ensures.capacity)))
 
-pub put_near-requires-clause-room : goal.put_near-requires-clause-room
-put_near-requires-clause-room g c =
+pub keep_near-requires-clause-room : goal.keep_near-requires-clause-room
+keep_near-requires-clause-room g c =
     let near = near_kept c.args.span.end c.args.span.start.frame (c.args.span.end - 1) c.args.cart.now c.args.inputs.now c.args.window.now.items c.pass_both-state.new.window.items c.requires.window_near c.pass_both-state.ensures.filled (omega arith) in
     let few = few_near c.args.span.end c.pass_both-state.new.window.items c.pass_both-state.ensures.window_rising near in
     omega (arith, few, c.requires.window_room, c.pass_both-state.ensures.window_capacity)
@@ -48,10 +48,10 @@ returns-clause-passed g c =
     let below : c.args.span.end - 1 < c.args.span.end = omega (arith, c.requires.order) in
     let from : c.args.span.start.frame ≤ c.args.span.end - 1 = omega (arith, c.requires.order) in
     let next = after_more cart inputs last c.pass_both-state.result c.play-end.new.state _ c.play-end.ensures.state c.pass_both-state.ensures.state lt in
-    subst (λ (to : ℕ). HasKept (grid_test c.args.span.stride) c.args.green.now.items cart inputs c.args.span.start.frame to c.put_on_grid.new.states.items) whole
-    (kept_more (grid_test c.args.span.stride) c.args.green.now.items c.pass_both-state.new.green.items c.put_on_grid.new.states.items cart inputs c.args.span.start.frame last c.args.span.end c.play-end.new.state from below next
+    subst (λ (to : ℕ). HasKept (grid_test c.args.span.stride) c.args.green.now.items cart inputs c.args.span.start.frame to c.keep_on_grid.new.states.items) whole
+    (kept_more (grid_test c.args.span.stride) c.args.green.now.items c.pass_both-state.new.green.items c.keep_on_grid.new.states.items cart inputs c.args.span.start.frame last c.args.span.end c.play-end.new.state from below next
     c.pass_both-state.ensures.passed
-    (rw whole c.put_on_grid.ensures.states))
+    (rw whole c.keep_on_grid.ensures.states))
 
 pub returns-clause-filled : goal.returns-clause-filled
 returns-clause-filled g c =
@@ -63,10 +63,10 @@ returns-clause-filled g c =
     let below : c.args.span.end - 1 < c.args.span.end = omega (arith, c.requires.order) in
     let from : c.args.span.start.frame ≤ c.args.span.end - 1 = omega (arith, c.requires.order) in
     let next = after_more cart inputs last c.pass_both-state.result c.play-end.new.state _ c.play-end.ensures.state c.pass_both-state.ensures.state lt in
-    subst (λ (to : ℕ). HasKept (near_test c.args.span.end) c.args.window.now.items cart inputs c.args.span.start.frame to c.put_near.new.states.items) whole
-    (kept_more (near_test c.args.span.end) c.args.window.now.items c.pass_both-state.new.window.items c.put_near.new.states.items cart inputs c.args.span.start.frame last c.args.span.end c.play-end.new.state from below next
+    subst (λ (to : ℕ). HasKept (near_test c.args.span.end) c.args.window.now.items cart inputs c.args.span.start.frame to c.keep_near.new.states.items) whole
+    (kept_more (near_test c.args.span.end) c.args.window.now.items c.pass_both-state.new.window.items c.keep_near.new.states.items cart inputs c.args.span.start.frame last c.args.span.end c.play-end.new.state from below next
     c.pass_both-state.ensures.filled
-    (rw whole c.put_near.ensures.states))
+    (rw whole c.keep_near.ensures.states))
 
 pub pass_both-state-requires-clause-room : goal.pass_both-state-requires-clause-room
 pass_both-state-requires-clause-room g c =

@@ -1,12 +1,11 @@
-use Rattle.std.proofs.Common.{arith}
-use Rattle.std.proofs.lemmas.Grind.{common_steps}
+use Rattle.std.proofs.Common.{◌∙◌, ap, sym, Some, eqb}
+use Rattle.tas_green.specs.Zone.{state_at, first_of, is_on_grid}
+use Rattle.tas_green.proofs.ZoneLemmas.{where_kept}
 use Rattle.tas_green.proofs.zone.put_on_grid.Goals as goal
 
-pub returns-clause-most : goal.returns-clause-most
-returns-clause-most g c = grind (arith, common_steps)
-
-pub returns-then-kept-last-clause-states : goal.returns-then-kept-last-clause-states
-returns-then-kept-last-clause-states g c = grind (arith, common_steps)
-
-pub put-requires-clause-room : goal.put-requires-clause-room
-put-requires-clause-room g c = grind (arith, common_steps)
+pub returns-then-is_on_grid-clause-states : goal.returns-then-is_on_grid-clause-states
+returns-then-is_on_grid-clause-states g c = λ f.
+    let on = sym c.is_on_grid.ensures ∙ c.if-is_on_grid.true in
+    let kept = c.args.kept in
+    c.put.ensures.states f
+    ∙ ap (λ there. first_of (state_at f c.args.states.now.items) there) (where_kept (is_on_grid c.args.stride c.args.last kept.frame) (eqb kept.frame f) (Some kept.state) on)

@@ -1,0 +1,12 @@
+use Rattle.std.proofs.Common.{◌∙◌, ap, sym, Some, eqb}
+use Rattle.tas_green.specs.Zone.{state_at, first_of, is_on_grid, where_true}
+use Rattle.tas_green.proofs.ZoneLemmas.{where_kept}
+use Rattle.tas_green.proofs.zone.keep_on_grid.Goals as goal
+
+pub returns-then-is_on_grid-clause-states : goal.returns-then-is_on_grid-clause-states
+returns-then-is_on_grid-clause-states g c = λ f.
+    let on = sym c.is_on_grid.ensures ∙ c.if-is_on_grid.true in
+    let frame = c.args.frame in
+    c.put.ensures.states f
+    ∙ ap (λ state. first_of (state_at f c.args.states.now.items) (where_true (eqb frame f) (Some state))) c.pack-state.ensures
+    ∙ ap (λ there. first_of (state_at f c.args.states.now.items) there) (where_kept (is_on_grid c.args.stride c.args.last frame) (eqb frame f) (Some c.args.state.now) on)
