@@ -7,3 +7,9 @@ returns-clause-reply g c = grind (arith, common_steps)
 
 pub returns-clause-seat : goal.returns-clause-seat
 returns-clause-seat g c = grind (arith, common_steps)
+
+pub export_movie-end-requires-clause-range : goal.export_movie-end-requires-clause-range
+export_movie-end-requires-clause-range g c = grind (arith, common_steps)
+
+pub export_movie-end-requires-clause-plan : goal.export_movie-end-requires-clause-plan
+export_movie-end-requires-clause-plan g c = grind (arith, common_steps)

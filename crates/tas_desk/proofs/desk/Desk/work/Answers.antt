@@ -17,3 +17,6 @@ returns-in-Err-clause-current g c = λ keeps. c.loop-near.invariant.current (kee
 
 pub returns-in-Err-clause-seat : goal.returns-in-Err-clause-seat
 returns-in-Err-clause-seat g c = grind (arith, common_steps)
+
+pub loop-near-init : goal.loop-near-init
+loop-near-init g c = grind (arith, common_steps)

@@ -1,4 +1,5 @@
-use Rattle.std.proofs.Common.{◌≡◌, length, ap, ◌∙◌, inl, inr, Err}
+use Rattle.std.proofs.Common.{◌≡◌, length, ap, ◌∙◌, inl, inr, Err, arith}
+use Rattle.std.proofs.lemmas.Grind.{common_steps}
 use Rattle.tas_session.specs.declared.replies.OfferError.TheVariants.{Cartridge}
 use Rattle.tas_desk.proofs.SeatLemmas.{looked_twice}
 use Rattle.tas_desk.proofs.WorkLemmas.{never_stale}
@@ -19,3 +20,6 @@ returns-in-Err-Cartridge-clause-current g c = λ keeps _.
     let same : c.in-Err-Cartridge.field-0 ≡ Cartridge (length front) = elim c.in-Err-Cartridge.ensures.error [ inl same ↦ same | inr memory ↦ cc (memory, c.in-Err-Cartridge.field-0-is) ] in
     never_stale c.args.seat.now.front c.job.new.seat.front front c.run.result.cart c.job.ensures.seat.seen.begins c.offer.ensures.seat.seen.begins
     (c.run.ensures.cart ∙ c.in_ok-job.ensures.job.is.cart) (c.offer.ensures.cartridge.0 (c.in-Err-Cartridge.is ∙ ap Err same)) keeps
+
+pub returns-in-Ok-clause-current : goal.returns-in-Ok-clause-current
+returns-in-Ok-clause-current g c = grind (arith, common_steps)
