@@ -13,3 +13,6 @@ returns c = grind (arith, common_steps)
 
 pub loop-word-init : goal.loop-word-init
 loop-word-init c = grind (arith, common_steps)
+
+pub offset_bounds-word-items-word-index : goal.offset_bounds-word-items-word-index
+offset_bounds-word-items-word-index c = grind (arith, common_steps)

@@ -1,4 +1,5 @@
-use Rattle.std.proofs.Common.{map, string_bytes, sym, ◌∙◌}
+use Rattle.std.proofs.lemmas.Grind.{common_steps}
+use Rattle.std.proofs.Common.{map, string_bytes, sym, ◌∙◌, arith}
 use Rattle.tas_words.proofs.TipLemmas.{no_tip_with_flag, no_tip_without_stray, tip_given, tip_is}
 use Rattle.tas_words.proofs.tips.tip_of.Goals.{else-are_plain-via-then-are_plain+else-has_stray, else-are_plain-via-else-are_plain}
 use Rattle.tas_words.proofs.tips.tip_of.Goals as goal
@@ -24,3 +25,9 @@ returns-else-are_plain g c =
       | else-are_plain-via-else-are_plain w ↦ no_tip_with_flag said command _ c.are_plain.ensures w.if-are_plain.false
     ]
     )
+
+pub returns-in_err-name : goal.returns-in_err-name
+returns-in_err-name g c = grind (arith, common_steps)
+
+pub returns-in_err-words : goal.returns-in_err-words
+returns-in_err-words g c = grind (arith, common_steps)

@@ -61,3 +61,21 @@ fact_in-result-in-diff-2 c = grind (arith, common_steps)
 
 pub returns-in_ok-number_of-in-trace : goal.returns-in_ok-number_of-in-trace
 returns-in_ok-number_of-in-trace c = grind (arith, common_steps)
+
+pub returns-in_err-frames_of-in-new : goal.returns-in_err-frames_of-in-new
+returns-in_err-frames_of-in-new c = grind (arith, common_steps)
+
+pub returns-in_err-optional_number_of-in-recover : goal.returns-in_err-optional_number_of-in-recover
+returns-in_err-optional_number_of-in-recover c = grind (arith, common_steps)
+
+pub returns-in_ok-optional_number_of-in-recover : goal.returns-in_ok-optional_number_of-in-recover
+returns-in_ok-optional_number_of-in-recover c = grind (arith, common_steps)
+
+pub returns-in_ok-frames_of-in-new : goal.returns-in_ok-frames_of-in-new
+returns-in_ok-frames_of-in-new c = grind (arith, common_steps)
+
+pub returns-in_err-word_of-in-new : goal.returns-in_err-word_of-in-new
+returns-in_err-word_of-in-new c = grind (arith, common_steps)
+
+pub returns-in_err-word_of-in-recover : goal.returns-in_err-word_of-in-recover
+returns-in_err-word_of-in-recover c = grind (arith, common_steps)
