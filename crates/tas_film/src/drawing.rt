@@ -25,7 +25,7 @@ pub fn play_up_to<A: Allocator>(
     ensures meter { meter.new ≡ meter.old + (end - start.frame) }
 {
     let inputs = movie.inputs();
-    let mut state = start.state;
+    let mut state = start.state.unpack();
     for frame in start.frame..end {
         // A halted machine stays as it is: its state has the halt.
         let _ = play_unseen(movie.cart(), &mut state, inputs[frame], meter);

@@ -142,7 +142,7 @@ pub fn write_film<A: Allocator, B: Allocator + Copy, W: Write>(
     prove!(len <= MAX_FRAMES);
     let power_on = Savestate {
         frame: 0,
-        state: State::power_on(movie.cart()),
+        state: State::power_on(movie.cart()).pack(),
     };
     let mut state = play_up_to(movie, power_on, from, &mut Meter::new());
     let mut written = 0;

@@ -1,5 +1,5 @@
 use Rattle.std.proofs.lemmas.Grind.{common_steps}
-use Rattle.std.proofs.Common.{◌<◌, length, arith}
+use Rattle.std.proofs.Common.{◌<◌, ◌∙◌, length, arith}
 use Rattle.tas_green.proofs.RunLemmas.{after_more}
 use Rattle.tas_film.proofs.drawing.play_up_to.Goals as goal
 
@@ -16,4 +16,4 @@ pub returns-clause-state : goal.returns-clause-state
 returns-clause-state g c = grind (arith, common_steps)
 
 pub loop-frame-init : goal.loop-frame-init
-loop-frame-init g c = grind (arith, common_steps)
+loop-frame-init g c = record { state = c.unpack-state.ensures ∙ c.requires.start; meter = omega arith }

@@ -9,7 +9,7 @@ use Rattle.tas_film.proofs.film.write_film.Goals as goal
 pub play_up_to-state-requires-clause-start : goal.play_up_to-state-requires-clause-start
 play_up_to-state-requires-clause-start g c =
     let movie = c.args.movie.now in
-    rw c.cart.ensures at c.power_on.ensures ∙ after_none movie.cart movie.inputs
+    c.pack.ensures ∙ (rw c.cart.ensures at c.power_on.ensures ∙ after_none movie.cart movie.inputs)
 
 pub loop-frame-init : goal.loop-frame-init
 loop-frame-init g c = record {
