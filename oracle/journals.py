@@ -132,7 +132,7 @@ def some_edit(rng, length):
 
 
 def some_journal(rng, cart, frames):
-    """A journal of this movie, mostly; it may be spoilt, or cut at any byte."""
+    """A journal of this movie, mostly; it may be spoilt, cut at any byte, or of another profile."""
     length, lines = len(frames), []
     for number in range(rng.choice((0, 1, 2, 3, 5, 9))):
         words, length = some_edit(rng, length)
@@ -148,4 +148,6 @@ def some_journal(rng, cart, frames):
         return journal[:first] + spoiling.spoilt(rng, journal[first:])
     if way < 0.7:
         return spoiling.spoilt(rng, journal)
+    if way < 0.75:
+        return journal.replace(PROFILE, b"profile 1\n", 1)
     return journal
