@@ -1,5 +1,5 @@
 -- An answer of a conversation with a journal.
-use Rattle.std.specs.Prelude.{◌≡◌, ℕ, List, Bool, true, false, Option, Some, Result, Ok, Err}
+use Rattle.std.specs.Prelude.{◌≡◌, ℕ, List, length, Option, Some, None, Result, Ok, Err}
 use Rattle.std.specs.Io.KnownBytes.{Appends}
 use Rattle.byte_text.specs.CutOff.{IsCutOff}
 use Rattle.tas_desk.specs.Seats.{SeatContent, KeepsZone}
@@ -28,12 +28,12 @@ abbrev pub FallsShort : {A : Type 0} → (before now : SeatContent A) → (old n
 FallsShort before now old new journal.Memory = new ≡ old
 FallsShort before now old new fault = (head : Option (List ℕ)) → IsNoted head before.front old → IsCutShort head now.front new × (new.upto ≡ old.upto) × (new.fault ≡ Some fault)
 
--- what came of a request: its answer is out, and before it the journal had all that the seat has seen; it asks for the end; it isn't answered;
+-- what came of a request: its answer is out, of `size` bytes, and before it the journal had all that the seat has seen; it asks for the end; it isn't answered;
 -- its answer was cut off, and before it the journal had all; or the journal hasn't all, and nothing of its answer is out
-abbrev pub IsNotedAnswer : {A : Type 0} → (before now : TalkingSeat A) → Request → (journal journal' : JournalContent) → (output output' : Option (List ℕ)) → Result Bool AnswerFault → Type 0
-IsNotedAnswer before now request journal journal' output output' (Ok true) =
-    (answer : List ℕ) × IsAnsweredAndShown before now request answer × Appends output output' answer × KeepsUp before.seat now.seat journal journal'
-IsNotedAnswer before now request journal journal' output output' (Ok false) = (request ≡ Quit) × (now ≡ before) × (journal' ≡ journal) × (output' ≡ output)
+abbrev pub IsNotedAnswer : {A : Type 0} → (before now : TalkingSeat A) → Request → (journal journal' : JournalContent) → (output output' : Option (List ℕ)) → Result (Option ℕ) AnswerFault → Type 0
+IsNotedAnswer before now request journal journal' output output' (Ok (Some size)) =
+    (answer : List ℕ) × IsAnsweredAndShown before now request answer × Appends output output' answer × KeepsUp before.seat now.seat journal journal' × (size ≡ length answer)
+IsNotedAnswer before now request journal journal' output output' (Ok None) = (request ≡ Quit) × (now ≡ before) × (journal' ≡ journal) × (output' ≡ output)
 IsNotedAnswer before now request journal journal' output output' (Err (Talk fault)) = HasNoTalkAnswer before now request fault × (journal' ≡ journal) × (output' ≡ output)
 IsNotedAnswer before now request journal journal' output output' (Err (Write sent)) =
     (answer : List ℕ) × IsAnsweredAndShown before now request answer × IsCutOff output output' answer sent × KeepsUp before.seat now.seat journal journal'

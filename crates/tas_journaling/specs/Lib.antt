@@ -1,2 +1,4 @@
 pub mod Journals
 pub mod Answers
+pub mod Talks
+pub mod Inside

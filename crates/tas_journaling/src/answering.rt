@@ -1,8 +1,13 @@
 //! Answers that wait for the journal.
 
-ghost use Rattle.std.specs.Prelude.{◌≡◌, Some};
+ghost use Rattle.std.specs.Prelude.{◌≡◌, None, Some, length, IfErr, IfOk, OnOk};
+ghost use Rattle.std.specs.Io.KnownBytes.{Appends};
+ghost use Rattle.byte_text.specs.CutOff.{IsCutOff};
+ghost use Rattle.tas_engines.specs.declared.fault.RunFault.TheVariants.{NoEntry};
 ghost use Rattle.tas_seat.specs.Conversations.{talking};
+ghost use Rattle.tas_seat.specs.Outcomes.{IsLook};
 ghost use Rattle.tas_journaling.specs.Answers.{IsNotedAnswer};
+ghost use Rattle.tas_journaling.specs.declared.answering.AnswerFault.TheVariants.{Talk as Unanswered};
 
 use crate::{Journal, JournalFault, JournalFile};
 use byte_text::write_counted;
@@ -29,8 +34,23 @@ pub enum AnswerFault {
     Write(usize),
 }
 
-/// Answers a request of a conversation as [`answer_talk`] does, and writes the answer; `false` where it asks for the end, which has no
-/// answer. Before the answer's first byte is written, the journal has all that the seat has seen of the history, its own edits among it,
+/// Hands an answer out whole, and returns how many bytes it has. After a failed write the error is how many went out, fewer than all.
+pub(crate) fn hand_out<W: Write>(output: &mut W, bytes: &[u8]) -> Result<usize, usize>
+    ensures out { OnOk result (Appends (W.contents output.old) (W.contents output.new) bytes.now) }
+    ensures count { IfOk result (λ size. size ≡ length bytes.now) }
+    ensures cut { IfErr result
+        (λ sent. IsCutOff (W.contents output.old) (W.contents output.new) bytes.now sent) }
+{
+    if let Err(fault) = write_counted(bytes, 0, output) {
+        return Err(fault.written);
+    }
+    // A flush that fails isn't reported, as in a conversation without a journal.
+    let _ = output.flush();
+    Ok(bytes.len())
+}
+
+/// Answers a request of a conversation as [`answer_talk`] does, writes the answer, and returns how many bytes it has; `None` where the
+/// request asks for the end, which has no answer. Before the answer's first byte is written, the journal has all that the seat has seen of the history, its own edits among it,
 /// and was brought to the disk. The seat is shown the history for that, also by a request that only looks.
 ///
 /// Faults: those of `answer_talk`; those of [`Journal::note`]; and a write that failed. An edit that was made stays in the history.
@@ -50,7 +70,7 @@ pub fn answer_noted<
     request: Request,
     journal: &mut Journal<J>,
     output: &mut W,
-) -> Result<bool, AnswerFault>
+) -> Result<Option<usize>, AnswerFault>
     // A request is answered as in a conversation without a journal. Where the journal's file had its head and the lines of a
     // beginning of what the seat had seen, it has those of all that the seat has seen, its edits among them, whenever the
     // answer is out, whole or in part; each line is there once, in order, and nothing else is. Where the journal fails,
@@ -63,21 +83,23 @@ pub fn answer_noted<
     // Refused: answer_goes_out_after_a_failed_journal.
     ensures failed { (fault : JournalFault) → journal.old.fault ≡ Some fault
         → (journal.new ≡ journal.old) × (W.contents output.new ≡ W.contents output.old) }
+    // `NoEntry` comes only of a request that looks, where no draft is open.
+    // Refused: none, see `answer_talk`.
+    ensures entry { IfErr result
+        (λ fault. fault ≡ Unanswered NoEntry → IsLook request × (draft.old ≡ None)) }
 {
     let found = match answer_talk(rt, alloc, desk, seat, draft, request) {
         Ok(found) => found,
         Err(fault) => return Err(AnswerFault::Talk(fault)),
     };
     let Some(bytes) = found else {
-        return Ok(false);
+        return Ok(None);
     };
     if let Err(fault) = journal.note(rt, alloc, desk, seat) {
         return Err(AnswerFault::Journal(fault));
     }
-    if let Err(fault) = write_counted(bytes.as_slice(), 0, output) {
-        return Err(AnswerFault::Write(fault.written));
+    match hand_out(output, bytes.as_slice()) {
+        Ok(size) => Ok(Some(size)),
+        Err(sent) => Err(AnswerFault::Write(sent)),
     }
-    // A flush that fails isn't reported, as in a conversation without a journal.
-    let _ = output.flush();
-    Ok(true)
 }

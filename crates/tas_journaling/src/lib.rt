@@ -5,6 +5,8 @@
 
 mod answering;
 mod journal;
+mod talking;
 
 pub use answering::{AnswerFault, answer_noted};
 pub use journal::{Journal, JournalFault, JournalFile};
+pub use talking::{TalkFault, converse_noted};

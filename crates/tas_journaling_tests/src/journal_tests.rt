@@ -164,7 +164,7 @@ fn hold_beside<N: Name, R: Wait + Abort>(rt: &R, alloc: Global, unopened: Unopen
         &mut journal,
         &mut output,
     );
-    check_same(rt, "end", end, Ok(true));
+    check_same(rt, "end", end, Ok(Some(13)));
     check_that(
         rt,
         "answer",

@@ -8,4 +8,8 @@ mod disks;
 #[cfg(test)]
 mod journal_tests;
 #[cfg(test)]
+mod line_talks;
+#[cfg(test)]
+mod talk_tests;
+#[cfg(test)]
 mod talks;

@@ -115,8 +115,8 @@ fn say<'a, N: Name, C: CloseOnDrop, R: Wait + Abort>(
         let request = expect_some(rt, parse_request(line));
         let end = answer_noted(rt, heap, desk, seat, &mut draft, request, journal, output);
         match end {
-            Ok(true) => {}
-            Ok(false) => return None,
+            Ok(Some(_)) => {}
+            Ok(None) => return None,
             Err(AnswerFault::Journal(JournalFault::Memory)) => {
                 return Some(AnswerFault::Journal(JournalFault::Memory));
             }
@@ -214,21 +214,34 @@ fn begun(size: usize) -> usize {
 
 /// Fails where the answers aren't the first bytes of all, the file hasn't the first bytes of the journal, or it lacks a line that an
 /// answer needs which has begun to go out.
-pub fn check_left<R: Abort>(rt: &R, alloc: Global, case: (&'static str, usize), left: &Left) {
-    let answers = first_parts(rt, alloc, &ANSWERS, ANSWERS.len());
-    check_that(
-        rt,
-        (case, "answers"),
-        answers.starts_with(left.answers.as_slice()),
-    );
+pub fn check_written<R: Abort>(
+    rt: &R,
+    alloc: Global,
+    case: (&'static str, usize),
+    answers: &[u8],
+    file: &[u8],
+) {
+    let wanted = first_parts(rt, alloc, &ANSWERS, ANSWERS.len());
+    check_that(rt, (case, "answers"), wanted.starts_with(answers));
     let all = first_parts(rt, alloc, &PARTS, PARTS.len());
-    check_that(rt, (case, "file"), all.starts_with(left.file.as_slice()));
-    let count = begun(left.answers.len());
+    check_that(rt, (case, "file"), all.starts_with(file));
+    let count = begun(answers.len());
     if count > 0 {
         let needed = expect_some(rt, NEEDED.get(count.saturating_sub(1)).copied());
         let least = size_of(&PARTS, needed.saturating_add(1));
-        check_that(rt, (case, "lines"), least <= left.file.len());
+        check_that(rt, (case, "lines"), least <= file.len());
     }
+}
+
+/// The same of what a conversation leaves.
+pub fn check_left<R: Abort>(rt: &R, alloc: Global, case: (&'static str, usize), left: &Left) {
+    check_written(
+        rt,
+        alloc,
+        case,
+        left.answers.as_slice(),
+        left.file.as_slice(),
+    );
 }
 
 /// How many answers go out before the first that needs more than these first bytes of the journal.

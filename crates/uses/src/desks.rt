@@ -7,8 +7,7 @@ use anyhow::{Result, bail};
 use std::alloc::Global;
 use std::sync::Wait;
 use tas_desk::{CloseOnDrop, Closed, Desk, Name, Seat, Unopened};
-use tas_journaling::{Journal, JournalFile, answer_noted};
-use tas_language::parse_request;
+use tas_journaling::{Journal, JournalFile, converse_noted};
 use tas_movie::{Edit, Inputs, Movie};
 use tas_seat::converse;
 use vcs_inputs::Input;
@@ -45,7 +44,7 @@ pub fn talk<N: Name, W: CloseOnDrop, R: Wait>(
 }
 
 /// What a seat is answered to an edit, and a file with a journal of it. The desk has no edits yet.
-pub fn edit_noted<N: Name, W: CloseOnDrop, R: Wait, J: JournalFile>(
+pub fn talk_noted<N: Name, W: CloseOnDrop, R: Wait, J: JournalFile>(
     rt: &R,
     alloc: Global,
     desk: &Desk<N, W>,
@@ -53,23 +52,17 @@ pub fn edit_noted<N: Name, W: CloseOnDrop, R: Wait, J: JournalFile>(
     file: J,
 ) -> Result<(Vec<u8>, J)> {
     let mut journal = Journal::begin(alloc, file, &Movie::blank(alloc)?, 0)?; // the journal's head
-    let Some(request) = parse_request(b"insert 0 1 R.... ..... .....") else {
-        bail!("no request")
-    };
+    let mut lines = b"insert 0 1 R.... ..... .....\nquit\n".as_slice();
     let mut out = Vec::new(alloc);
-    let goes_on = answer_noted(
+    converse_noted(
         rt,
         alloc,
         desk,
         seat,
-        &mut None,
-        request,
         &mut journal,
+        &mut lines,
         &mut out,
     )?;
-    if !goes_on {
-        bail!("the end") // only of `quit`
-    }
     Ok((out, journal.into_file())) // edit 1 len 1, and the line 0 0 insert 0 1 R.... ..... .....
 }
 

@@ -1,9 +1,7 @@
-use Rattle.std.proofs.Common.{refl, subst, List, ℕ}
+use Rattle.std.proofs.Common.{refl, subst, List, ℕ, ap, ◌∙◌, length}
 use Rattle.std.specs.Io.KnownBytes.{Appends}
-use Rattle.std.proofs.KnownBytes.{Appends-kept}
 use Rattle.byte_text.specs.CutOff.{IsCutOff}
 use Rattle.tas_seat.specs.Conversations.{talking}
-use Rattle.tas_seat.proofs.TalkLemmas.{counted_from_nothing}
 use Rattle.tas_journaling.proofs.NoteLemmas.{falls_short_from, keeps_up_from}
 use Rattle.tas_journaling.proofs.answering.answer_noted.Goals as goal
 
@@ -16,22 +14,21 @@ returns-in-Err-note-clause-answer g c =
       falls_short_from (talking c.args.seat.now c.args.draft.now) (talking c.answer_talk.new.seat c.answer_talk.new.draft) c.note.new.seat c.args.request c.in-Some.bytes.items c.args.journal.now c.note.new.self c.in-Err-note.fault answered c.in-Err-note.ensures.fault,
     )
 
-pub returns-in-Err-write_counted-clause-answer : goal.returns-in-Err-write_counted-clause-answer
-returns-in-Err-write_counted-clause-answer g c =
-    let answered = rw c.in-Some.is at c.in-Ok.ensures.answer in (
-      c.in-Some.bytes.items,
-      record { seat = c.answer_talk.new.seat; answered = answered; shown = c.in_default-note.ensures.seat },
-      subst (λ (l : List ℕ). IsCutOff (g.W.Write.contents c.args.output.now) (g.W.Write.contents c.write_counted.new.to) l c.in-Err-write_counted.fault.written) c.as_slice.ensures.value
-          (counted_from_nothing _ _ c.as_slice.result.now c.in-Err-write_counted.fault.written c.in-Err-write_counted.ensures.cut),
-      keeps_up_from (talking c.args.seat.now c.args.draft.now) (talking c.answer_talk.new.seat c.answer_talk.new.draft) c.note.new.seat c.args.request c.in-Some.bytes.items c.args.journal.now c.note.new.self answered c.in_default-note.ensures.done,
-    )
-
 pub returns-clause-answer : goal.returns-clause-answer
 returns-clause-answer g c =
     let answered = rw c.in-Some.is at c.in-Ok.ensures.answer in (
       c.in-Some.bytes.items,
       record { seat = c.answer_talk.new.seat; answered = answered; shown = c.in_default-note.ensures.seat },
-      subst (λ (l : List ℕ). Appends (g.W.Write.contents c.args.output.now) (g.W.Write.contents c.flush.new.self) l) c.as_slice.ensures.value
-          (Appends-kept _ _ _ c.as_slice.result.now c.in_default-write_counted.ensures.all c.flush.ensures.bytes),
+      subst (λ (l : List ℕ). IsCutOff (g.W.Write.contents c.args.output.now) (g.W.Write.contents c.hand_out.new.output) l c.in-Err-hand_out.sent) c.as_slice.ensures.value c.in-Err-hand_out.ensures.cut,
       keeps_up_from (talking c.args.seat.now c.args.draft.now) (talking c.answer_talk.new.seat c.answer_talk.new.draft) c.note.new.seat c.args.request c.in-Some.bytes.items c.args.journal.now c.note.new.self answered c.in_default-note.ensures.done,
+    )
+
+pub returns-in-Ok-hand_out-clause-answer : goal.returns-in-Ok-hand_out-clause-answer
+returns-in-Ok-hand_out-clause-answer g c =
+    let answered = rw c.in-Some.is at c.in-Ok.ensures.answer in (
+      c.in-Some.bytes.items,
+      record { seat = c.answer_talk.new.seat; answered = answered; shown = c.in_default-note.ensures.seat },
+      subst (λ (l : List ℕ). Appends (g.W.Write.contents c.args.output.now) (g.W.Write.contents c.hand_out.new.output) l) c.as_slice.ensures.value c.in-Ok-hand_out.ensures.out,
+      keeps_up_from (talking c.args.seat.now c.args.draft.now) (talking c.answer_talk.new.seat c.answer_talk.new.draft) c.note.new.seat c.args.request c.in-Some.bytes.items c.args.journal.now c.note.new.self answered c.in_default-note.ensures.done,
+      c.in-Ok-hand_out.ensures.count ∙ ap (λ (l : List ℕ). length l) c.as_slice.ensures.value,
     )

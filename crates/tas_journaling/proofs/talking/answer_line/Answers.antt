@@ -1,0 +1,24 @@
+use Rattle.std.proofs.Common.{Err, sym, subst}
+use Rattle.tas_seat.specs.Conversations.{talking}
+use Rattle.tas_journaling.specs.declared.talking.TalkFault.{TalkFault}
+use Rattle.tas_journaling.specs.Inside.{IsNotedTurn}
+use Rattle.tas_journaling.proofs.TalkLemmas.{known_broken, known_turn, unknown_answered}
+use Rattle.tas_journaling.proofs.talking.answer_line.Goals as goal
+
+pub returns-in_default : goal.returns-in_default
+returns-in_default g c = λ said holds none.
+    unknown_answered (talking c.args.seat.now c.args.draft.now) c.args.journal.now said c.args.written _ _ c.answer_unknown.result none (c.in_default.ensures said holds) c.answer_unknown.ensures.out c.answer_unknown.ensures.count
+    c.answer_unknown.ensures.fault
+
+pub returns-in-Ok-Some : goal.returns-in-Ok-Some
+returns-in-Ok-Some g c = λ said holds none.
+    known_turn (talking c.args.seat.now c.args.draft.now) (talking c.answer_noted.new.seat c.answer_noted.new.draft) c.args.journal.now c.answer_noted.new.journal said c.args.written c.in-Ok-Some.size c.saturating_add.result _ _ c.in-Some.request none (c.in-Some.ensures said holds)
+    (rw c.in-Ok-Some.field-0-is at c.in-Ok-Some.ensures.answer) c.saturating_add.ensures
+
+pub returns-in-Err : goal.returns-in-Err
+returns-in-Err g c = λ said holds none.
+    subst
+    (λ (f : TalkFault). IsNotedTurn (talking c.args.seat.now c.args.draft.now) (talking c.answer_noted.new.seat c.answer_noted.new.draft) c.args.journal.now c.answer_noted.new.journal said c.args.written (g.W.Write.contents c.args.output.now)
+    (g.W.Write.contents c.answer_noted.new.output) (Err f)) (sym c.counted.ensures)
+    (known_broken (talking c.args.seat.now c.args.draft.now) (talking c.answer_noted.new.seat c.answer_noted.new.draft) c.args.journal.now c.answer_noted.new.journal said c.args.written _ _ c.in-Some.request c.in-Err.fault none (c.in-Some.ensures said holds) c.in-Err.ensures.answer
+    c.in-Err.ensures.entry)

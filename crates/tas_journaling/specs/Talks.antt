@@ -1,0 +1,55 @@
+-- A conversation with a journal: a seat's conversation whose answers wait for the journal.
+use Rattle.std.specs.Prelude.{◌≡◌, ℕ, List, [], ◌∷◌, ◌++◌, length, Option, None, Result, Ok, Err, ◌⊎◌}
+use Rattle.std.specs.Io.KnownBytes.{Appends, Consumes}
+use Rattle.tas_movie.specs.declared.edit.Edit.{Edit}
+use Rattle.tas_published.specs.declared.entry.Entry.{Entry}
+use Rattle.tas_desk.specs.Seats.{SeatContent, KeepsZone}
+use Rattle.tas_engines.specs.declared.fault.RunFault.TheVariants.{Write}
+use Rattle.tas_engines.specs.declared.fault.ToolFault.TheVariants.{Run}
+use Rattle.tas_seat.specs.Conversations.{TalkingSeat, talking}
+use Rattle.tas_seat.specs.Talk.{Exchange, IsExchange, TalkEnds, IsCarriedOut, lines_of, answers_of}
+use Rattle.tas_journaling.specs.declared.talking.TalkFault.{TalkFault}
+use Rattle.tas_journaling.specs.declared.talking.TalkFault.TheVariants.{Tool, Journal}
+use Rattle.tas_journaling.specs.Journals.{JournalContent, IsNoted, HasAll, IsCutShort}
+
+-- what a conversation reads from and writes to: the bytes that are left of its lines, those that the writer of its answers holds, and its journal
+pub record Ways : Type 0 where
+  pub input : Option (List ℕ)
+  pub output : Option (List ℕ)
+  pub journal : JournalContent
+
+-- each line is answered as without a journal, from where the lines before it left the seat, which was then shown more of the history, or nothing
+unfoldable pub AreShown : {A : Type 0} → TalkingSeat A → List (Exchange A) → TalkingSeat A → Type 0
+AreShown seat [] last = last ≡ seat
+AreShown {A} seat (exchange ∷ exchanges) last =
+    IsExchange seat exchange × (shown : SeatContent A) × KeepsZone exchange.next.seat shown × AreShown (talking shown exchange.next.draft) exchanges last
+
+-- how it ends before this rest, with these answers out before: as without a journal; or the journal failed, and the first line of the rest was
+-- carried out, but nothing of its answer is out
+abbrev pub NotedEnds : {A : Type 0} → TalkingSeat A → (last : SeatContent A) → (rest told : List ℕ) → List (Edit A) → (input output output' : Option (List ℕ)) → Result (Unit {0}) TalkFault → Type 0
+NotedEnds seat last rest told edits input output output' (Ok done) = TalkEnds seat last rest told edits input output output' (Ok done)
+NotedEnds seat last rest told edits input output output' (Err (Tool fault)) = TalkEnds seat last rest told edits input output output' (Err fault)
+NotedEnds seat last rest told edits input output output' (Err (Journal fault)) = (answer : List ℕ) × IsCarriedOut seat last rest edits answer × Appends output output' told
+
+-- what its journal has then, where `answered` is what the seat had seen after the last answer that is out whole, and `last` what it has seen in the
+-- end: the lines of all that the seat has seen, also where an answer was cut off; where a line isn't answered, those of all that it had seen after
+-- the last answer; and where the journal failed, perhaps some first bytes of the next ones after these
+abbrev pub JournalEnds : {A : Type 0} → (head : Option (List ℕ)) → (answered last : List (Entry A)) → JournalContent → Result (Unit {0}) TalkFault → Type 0
+JournalEnds head answered last journal (Ok done) = HasAll head last journal
+JournalEnds head answered last journal (Err (Tool (Run (Write written)))) = HasAll head last journal
+JournalEnds head answered last journal (Err (Tool fault)) = IsNoted head last journal × (journal.upto ≡ length answered)
+JournalEnds head answered last journal (Err (Journal fault)) = (IsNoted head last journal ⊎ IsCutShort head last journal) × (journal.upto ≡ length answered)
+
+-- a conversation with a journal that had its head and the lines of all that the seat had seen. Without a draft it begins, and one that is open at
+-- the end is lost
+pub record IsNotedTalk {A : Type 0} (start last : SeatContent A) (old new : Ways) (result : Result (Unit {0}) TalkFault) : Type 0 where
+  pub exchanges : List (Exchange A)
+  pub seat : TalkingSeat A
+  pub left_at : SeatContent A
+  pub rest : List ℕ
+  pub more : List (Edit A)
+  pub answered : AreShown (talking start None) exchanges seat
+  pub left : Consumes old.input new.input (lines_of exchanges ++ rest)
+  pub ends : NotedEnds seat left_at rest (answers_of exchanges) more new.input old.output new.output result
+  pub shown : KeepsZone left_at last
+  pub noted : (head : Option (List ℕ)) → HasAll head start.front old.journal → JournalEnds head seat.seat.front last.front new.journal result
