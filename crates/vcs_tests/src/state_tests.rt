@@ -1,4 +1,5 @@
-//! States are equal only where all their parts are: pairs of programs whose machines differ in one part.
+//! States are equal only where all their parts are, and so are packed states: pairs of programs whose machines differ in one
+//! part.
 
 use crate::carts::program;
 use crate::checks::{check_same, check_that};
@@ -40,6 +41,11 @@ fn check_differ<R: Abort, C: Copy + Debug>(
     let again = after(rt, alloc, one, frames);
     let found = [first == second, second == first, first == again];
     check_same(rt, case, found, [false, false, true]);
+    let (one, other, same) = (first.pack(), second.pack(), again.pack());
+    let found = [one == other, other == one, one == same];
+    check_same(rt, case, found, [false, false, true]);
+    let found = [one.unpack() == first, other.unpack() == second];
+    check_same(rt, case, found, [true; 2]);
 }
 
 /// What differs, both programs, and after how many frames.
