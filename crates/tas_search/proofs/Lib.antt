@@ -17,4 +17,8 @@ pub mod ReachLemmas
 pub mod LimitLemmas
 pub mod CodeLemmas
 pub mod ExtremeLemmas
+pub mod GrowLemmas
+pub mod LogLemmas
+pub mod CountLemmas
+pub mod ReportLemmas
 pub mod PartLemmas

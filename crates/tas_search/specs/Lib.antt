@@ -9,6 +9,9 @@ pub mod ChoicesFile
 pub mod StickChoices
 pub mod Parts
 pub mod Outcome
+pub mod LayerLines
+pub mod Logs
+pub mod Reported
 pub mod Power
 pub mod GoalAnswer
 pub mod AnswerChanges

@@ -8,11 +8,15 @@ use Rattle.tas_search.specs.declared.expression.Expression.{Expression}
 use Rattle.tas_search.specs.declared.goal.GoalKind.{GoalKind}
 use Rattle.tas_search.specs.declared.movie_search.SearchRange.{SearchRange}
 use Rattle.tas_search.specs.declared.movie_search.SearchFault.{SearchFault}
-use Rattle.tas_search.specs.declared.movie_search.SearchFault.TheVariants.{Short, Hold, Long, Memory}
+use Rattle.tas_search.specs.declared.movie_search.SearchFault.TheVariants.{Short, Hold, Long, Report, Memory}
+use Rattle.tas_search.specs.declared.logs.Unfinished.{Unfinished}
+use Rattle.tas_search.specs.declared.logs.Unfinished.TheVariants as end
 use Rattle.tas_search.specs.Outcome.{Outcome, best, nothing, stopped}
 use Rattle.tas_search.specs.Space.{SpaceContent}
 use Rattle.tas_search.specs.GoalAnswer.{IsGoalAnswer}
 use Rattle.tas_search.specs.AnswerChanges.{answer_changes, Writes}
+use Rattle.tas_search.specs.Logs.{LogBytes}
+use Rattle.tas_search.specs.Reported.{StopsReporting}
 
 -- the sequences of some choices after a movie's first `from` frames, each choice held for `hold` frames
 abbrev pub space_of : MovieContent → List Input → SearchRange → SpaceContent
@@ -34,9 +38,23 @@ IsMovieAnswer movie choices kind e range outcome changes =
     CanSearch movie range × IsGoalAnswer (space_of movie choices range) kind e range.count range.states outcome × WritesFound movie range (space_of movie choices range) outcome changes
 
 -- why there is none: the movie ends before the space begins; or a choice is held for no frame; or the movie would be too long with the longest
--- sequences; or, where it is none of these, memory is
+-- sequences; or, where it is none of these, the report or memory is
 abbrev pub IsSearchFault : MovieContent → SearchRange → SearchFault → Type 0
 IsSearchFault movie range (Short len) = (len ≡ length movie.inputs) × (len < range.from)
 IsSearchFault movie range Hold = (range.from ≤ length movie.inputs) × (range.hold ≡ 0)
 IsSearchFault movie range Long = (range.from ≤ length movie.inputs) × (0 < range.hold) × (most_inputs < range.from + range.count * range.hold)
+IsSearchFault movie range Report = CanSearch movie range
 IsSearchFault movie range Memory = CanSearch movie range
+
+-- the fault of a search that wasn't finished
+abbrev pub fault_of : Unfinished → SearchFault
+fault_of end.Report = Report
+fault_of end.Memory = Memory
+
+-- what is in the report then: nothing of a space that can't be searched, and of another one the first bytes of its lines
+abbrev pub StopsSearching : SpaceContent → (old new : LogBytes) → SearchFault → Type 0
+StopsSearching s old new (Short len) = new ≡ old
+StopsSearching s old new Hold = new ≡ old
+StopsSearching s old new Long = new ≡ old
+StopsSearching s old new Report = StopsReporting s old new
+StopsSearching s old new Memory = StopsReporting s old new

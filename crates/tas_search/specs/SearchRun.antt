@@ -9,7 +9,8 @@ use Rattle.tas_engines.specs.Output.{StopsWriting}
 use Rattle.tas_search.specs.declared.search_error.SearchError.{SearchError}
 use Rattle.tas_search.specs.declared.search_error.SearchError.TheVariants.{Read, Run}
 use Rattle.tas_search.specs.declared.search_request.Search.{Search}
-use Rattle.tas_search.specs.SearchText.{SearchInputs, IsSearchText, IsSearchError}
+use Rattle.tas_search.specs.SearchText.{SearchInputs, IsSearchText, IsSearchError, StopsText}
+use Rattle.tas_search.specs.Logs.{LogBytes}
 
 -- the places of the names and of the movie among the inputs: after the cartridge, the choices if they are given, and the names if they are
 abbrev pub names_place : Search → ℕ
@@ -38,24 +39,30 @@ read_inputs s read = record {
 }
 
 -- a write of the script failed
-pub record BreaksOff (i : SearchInputs) (old new : Option (List ℕ)) (e : SearchError) : Type 0 where
+pub record BreaksOff (i : SearchInputs) (old new : Option (List ℕ)) (logs logs' : LogBytes) (e : SearchError) : Type 0 where
   pub script : List ℕ
   pub report : List ℕ
-  pub text : IsSearchText i script report
+  pub text : IsSearchText i script report logs logs'
   pub fault : RunFault
   pub is : e ≡ Run fault
   pub stops : StopsWriting old new script fault
 
--- the script is written, and the report returned; or a fault is the answer, and nothing is written; or a write failed
-abbrev pub Ends : {Z : Type 0} → (Z → List ℕ) → SearchInputs → Option (List ℕ) → Option (List ℕ) → Result Z SearchError → Type 0
-Ends said i old new (Ok report) = (script : List ℕ) × IsSearchText i script (said report) × Appends old new script
-Ends said i old new (Err e) = (IsSearchError i e × Keeps old new) ⊎ BreaksOff i old new e
+-- a fault is the answer: no script is written, and of the report a beginning
+pub record EndsWithoutAnswer (i : SearchInputs) (old new : Option (List ℕ)) (logs logs' : LogBytes) (e : SearchError) : Type 0 where
+  pub fault : IsSearchError i e
+  pub output : Keeps old new
+  pub report : StopsText i logs logs'
+
+-- the script is written, and the verdict returned, after the lines of the layers; or there is no answer; or a write of the script failed
+abbrev pub Ends : {Z : Type 0} → (Z → List ℕ) → SearchInputs → (old new : Option (List ℕ)) → (logs logs' : LogBytes) → Result Z SearchError → Type 0
+Ends said i old new logs logs' (Ok report) = (script : List ℕ) × IsSearchText i script (said report) logs logs' × Appends old new script
+Ends said i old new logs logs' (Err e) = EndsWithoutAnswer i old new logs logs' e ⊎ BreaksOff i old new logs logs' e
 
 -- reading stopped, and nothing is written; or all inputs were read whole, in order, and the search ends on them
-abbrev pub IsSearchRunOn : {Z : Type 0} → (Z → List ℕ) → Search → (inputs inputs' : List (Option (List ℕ))) → (output output' : Option (List ℕ)) → Result Z SearchError → Type 0
-IsSearchRunOn said s inputs inputs' output output' result =
-    ((fault : ReadFault) × (result ≡ Err (Read fault)) × StopsReadingAll inputs inputs' fault × Keeps output output')
-    ⊎ ((read : List (List ℕ)) × AreReadWhole inputs inputs' read × Ends said (read_inputs s read) output output' result)
+abbrev pub IsSearchRunOn : {Z : Type 0} → (Z → List ℕ) → Search → (inputs inputs' : List (Option (List ℕ))) → (output output' : Option (List ℕ)) → (logs logs' : LogBytes) → Result Z SearchError → Type 0
+IsSearchRunOn said s inputs inputs' output output' logs logs' result =
+    ((fault : ReadFault) × (result ≡ Err (Read fault)) × StopsReadingAll inputs inputs' fault × Keeps output output' × (logs' ≡ logs))
+    ⊎ ((read : List (List ℕ)) × AreReadWhole inputs inputs' read × Ends said (read_inputs s read) output output' logs logs' result)
 
-abbrev pub IsSearchRun : {Z : Type 0} → (Z → List ℕ) → Search → (files files' : List (Option (List ℕ))) → (input input' output output' : Option (List ℕ)) → Result Z SearchError → Type 0
-IsSearchRun said s files files' input input' output output' result = IsSearchRunOn said s (in_order files input) (in_order files' input') output output' result
+abbrev pub IsSearchRun : {Z : Type 0} → (Z → List ℕ) → Search → (files files' : List (Option (List ℕ))) → (input input' output output' : Option (List ℕ)) → (logs logs' : LogBytes) → Result Z SearchError → Type 0
+IsSearchRun said s files files' input input' output output' logs logs' result = IsSearchRunOn said s (in_order files input) (in_order files' input') output output' logs logs' result

@@ -1,5 +1,5 @@
 -- What a search of a movie answers to the bytes of its inputs.
-use Rattle.std.specs.Prelude.{◌≡◌, ℕ, ◌*◌, ◌<◌, Bool, true, false, List, length}
+use Rattle.std.specs.Prelude.{◌≡◌, ℕ, ◌*◌, ◌<◌, Bool, true, false, List, length, ◌⊎◌}
 use Rattle.std.specs.List.{flat_map}
 use Rattle.vcs_inputs.specs.declared.input.Input.{Input}
 use Rattle.tas_movie.specs.Content.{MovieContent}
@@ -22,8 +22,10 @@ use Rattle.tas_search.specs.Words.{Names}
 use Rattle.tas_search.specs.Grammar.{tree_of}
 use Rattle.tas_search.specs.GoalText.{IsGoalText, IsGoalFault}
 use Rattle.tas_search.specs.Outcome.{Outcome}
-use Rattle.tas_search.specs.MovieSearch.{IsMovieAnswer, IsSearchFault}
+use Rattle.tas_search.specs.MovieSearch.{IsMovieAnswer, IsSearchFault, space_of}
 use Rattle.tas_search.specs.Verdict.{IsVerdict}
+use Rattle.tas_search.specs.Logs.{LogBytes}
+use Rattle.tas_search.specs.Reported.{IsReported, IsCutReport}
 
 -- the frames are some number of choices, each held for a frame or more
 abbrev pub Divides : ℕ → ℕ → Type 0
@@ -80,13 +82,14 @@ pub record Said (i : SearchInputs) (movie : MovieContent) (inputs : List Input) 
   pub goal_is : IsGoalOver i.names i.goal kind e
   pub range_is : IsRangeOf i.from i.frames i.hold i.states range
 
--- the script and the verdict of what the definitions say of the whole space
-pub record IsFoundText (movie : MovieContent) (inputs : List Input) (kind : GoalKind) (e : Expression) (range : SearchRange) (script report : List ℕ) : Type 0 where
+-- the script and the verdict of what the definitions say of the whole space, and the lines of its layers
+pub record IsFoundText (movie : MovieContent) (inputs : List Input) (kind : GoalKind) (e : Expression) (range : SearchRange) (script report : List ℕ) (old new : LogBytes) : Type 0 where
   pub outcome : Outcome
   pub changes : List Change
   pub answer : IsMovieAnswer movie inputs kind e range outcome changes
   pub script_is : script ≡ flat_map change_line changes
   pub report_is : IsVerdict kind range (length inputs) outcome report
+  pub reported : IsReported (space_of movie inputs range) range.count outcome old new
 
 -- why there is none, of a movie and a range
 abbrev pub IsFoundError : MovieContent → SearchRange → SearchError → Type 0
@@ -95,14 +98,14 @@ IsFoundError movie range Memory = Unit {0}
 IsFoundError movie range _ = ⊥
 
 -- the same of what the inputs say
-pub record IsSearchText (i : SearchInputs) (script report : List ℕ) : Type 0 where
+pub record IsSearchText (i : SearchInputs) (script report : List ℕ) (old new : LogBytes) : Type 0 where
   pub movie : MovieContent
   pub inputs : List Input
   pub kind : GoalKind
   pub e : Expression
   pub range : SearchRange
   pub said : Said i movie inputs kind e range
-  pub found : IsFoundText movie inputs kind e range script report
+  pub found : IsFoundText movie inputs kind e range script report old new
 
 -- why there is none: the first of the movie, the choices, the names, the goal, the frames and the space that is at fault; out of memory is a
 -- fault only of a cartridge that has the size of one
@@ -116,6 +119,19 @@ IsSearchError i Frames =
     (movie : MovieContent) × (inputs : List Input) × (kind : GoalKind) × (e : Expression) × IsMovieOf i.image i.movie movie × AreGiven i.has_choices i.choices inputs × IsGoalOver i.names i.goal kind e × (Divides i.hold i.frames → ⊥)
 IsSearchError i (NotSearched fault) = (movie : MovieContent) × (inputs : List Input) × (kind : GoalKind) × (e : Expression) × (range : SearchRange) × Said i movie inputs kind e range × IsSearchFault movie range fault
 IsSearchError i Memory = (movie : MovieContent) × (inputs : List Input) × (kind : GoalKind) × (e : Expression) × (range : SearchRange) × Said i movie inputs kind e range
+
+-- what is in the report without an answer: nothing more, or the first bytes of the lines of what the inputs say
+pub record StopsSaid (i : SearchInputs) (old new : LogBytes) : Type 0 where
+  pub movie : MovieContent
+  pub inputs : List Input
+  pub kind : GoalKind
+  pub e : Expression
+  pub range : SearchRange
+  pub said : Said i movie inputs kind e range
+  pub cut : IsCutReport (space_of movie inputs range) old new
+
+abbrev pub StopsText : SearchInputs → (old new : LogBytes) → Type 0
+StopsText i old new = (new ≡ old) ⊎ StopsSaid i old new
 
 -- the inputs of a search
 abbrev pub inputs_of : Search → SearchBytes → SearchInputs

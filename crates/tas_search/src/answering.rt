@@ -3,7 +3,7 @@
 //! The movie's faults come before those of the choices, the names and the goal, as other commands have it: what a search is asked for can
 //! only be judged on a movie.
 
-ghost use Rattle.std.specs.Prelude.{◌≡◌, ◌<◌, true, false, length, IfOk, IfErr};
+ghost use Rattle.std.specs.Prelude.{◌≡◌, ◌<◌, true, false, length, IfOk, IfErr, OnErr};
 ghost use Rattle.tas_search.specs.SearchText.{
   AreGiven,
   IsGivenError,
@@ -13,8 +13,12 @@ ghost use Rattle.tas_search.specs.SearchText.{
   IsFoundError,
   IsSearchText,
   IsSearchError,
+  StopsText,
   inputs_of,
 };
+ghost use Rattle.tas_search.specs.MovieSearch.{space_of};
+ghost use Rattle.tas_search.specs.Logs.{log_bytes};
+ghost use Rattle.tas_search.specs.Reported.{IsCutReport};
 
 use crate::choices::{ChoicesError, read_choices, stick_choices};
 use crate::goal::{Goal, read_goal};
@@ -24,6 +28,8 @@ use crate::search_error::SearchError;
 use crate::search_request::{Search, range_of};
 use crate::verdict::verdict;
 use std::alloc::Global;
+use std::io::Write;
+use std::thread::Threads;
 use tas_engines::{movie_of, print_changes};
 use tas_movie::Movie;
 use vcs_inputs::Input;
@@ -80,20 +86,27 @@ fn goal_of(alloc: Global, names: &[u8], goal: &[u8]) -> Result<Goal, SearchError
     }
 }
 
-/// The script and the report of a search of a movie.
-fn found_text(
+/// The script and the verdict of a search of a movie.
+fn found_text<R: Threads + Sync, E: Write, P: Write>(
+    rt: &R,
     alloc: Global,
     movie: &Movie,
     choices: &[Input],
     goal: &Goal,
     range: SearchRange,
+    errors: &mut E,
+    report: &mut P,
 ) -> Result<SearchText, SearchError>
     requires { 0 < length choices.now }
     ensures text { IfOk result (λ text. IsFoundText movie.now choices.now goal.now.kind
-        goal.now.formula range text.script.items text.report.items) }
+        goal.now.formula range text.script.items text.report.items (log_bytes (E.contents errors.old) (P.contents report.old))
+        (log_bytes (E.contents errors.new) (P.contents report.new))) }
     ensures fault { IfErr result (IsFoundError movie.now range) }
+    ensures cut { OnErr result
+        (IsCutReport (space_of movie.now choices.now range) (log_bytes (E.contents errors.old) (P.contents report.old))
+        (log_bytes (E.contents errors.new) (P.contents report.new))) }
 {
-    match search_movie(alloc, movie, choices, goal, range) {
+    match search_movie(rt, alloc, movie, choices, goal, range, errors, report) {
         Err(fault) => Err(SearchError::Search(fault)),
         Ok((found, changes)) => {
             let report = verdict(alloc, goal.kind, range, choices.len(), &found)?;
@@ -103,24 +116,35 @@ fn found_text(
     }
 }
 
-/// What a search answers to its inputs: the script that writes the best sequence into the movie, and the report; or why there is no answer.
+/// What a search answers to its inputs: the script that writes the best sequence into the movie, and the verdict; or why there is no answer.
+/// Writes a line for each layer that was searched whole.
 ///
 /// Faults, in order: those of [`movie_of`], `Choices`, `Names`, `Goal`, `Frames`, and then those of [`search_movie`]. Each may be that memory
 /// was refused, once the cartridge has the size of one.
-pub fn search_text(
+pub fn search_text<R: Threads + Sync, E: Write, P: Write>(
+    rt: &R,
     alloc: Global,
     search: &Search<'_>,
     bytes: &SearchBytes<'_>,
+    errors: &mut E,
+    report: &mut P,
 ) -> Result<SearchText, SearchError>
     // A search is a function of its inputs' bytes. After `best of all` the script writes a sequence of the space into the
     // movie that meets the goal, and of all sequences none does so earlier, or has a better value; of those as good it is
-    // the first. After `none` no sequence meets it, and after `stopped` none of as many frames as the line says.
+    // the first. After `none` no sequence meets it, and after `stopped` none of as many frames as the line says. With it
+    // the report has a line for each layer. All of it is the same whatever the number of workers, which is no input.
     // Refused: changes_are_left_out_of_the_script, choices_file_is_left_unread.
     ensures text { IfOk result (λ text. IsSearchText (inputs_of search.now bytes.now)
-        text.script.items text.report.items) }
+        text.script.items text.report.items (log_bytes (E.contents errors.old) (P.contents report.old))
+        (log_bytes (E.contents errors.new) (P.contents report.new))) }
     // A fault is that of the first input that has one.
     // Refused: goal_is_read_without_names.
     ensures fault { IfErr result (IsSearchError (inputs_of search.now bytes.now)) }
+    // Without an answer the report has the first bytes of the lines of its layers.
+    // Refused: none, the lines are those of `find_goal`.
+    ensures cut { OnErr result
+        (StopsText (inputs_of search.now bytes.now) (log_bytes (E.contents errors.old) (P.contents report.old))
+        (log_bytes (E.contents errors.new) (P.contents report.new))) }
 {
     let movie = match movie_of(alloc, bytes.image, bytes.movie) {
         Ok(movie) => movie,
@@ -134,5 +158,14 @@ pub fn search_text(
     let Some(range) = range_of(search) else {
         return Err(SearchError::Frames);
     };
-    found_text(alloc, &movie, choices.as_slice(), &goal, range)
+    found_text(
+        rt,
+        alloc,
+        &movie,
+        choices.as_slice(),
+        &goal,
+        range,
+        errors,
+        report,
+    )
 }

@@ -1,18 +1,24 @@
 //! The search for the greatest or the least value.
 
-ghost use Rattle.std.specs.Prelude.{◌≡◌, IfOk, MatchOption, length};
+ghost use Rattle.std.specs.Prelude.{◌≡◌, IfOk, OnErr, MatchOption, length};
 ghost use Rattle.tas_search.specs.Extreme.{IsExtremeAnswer};
 ghost use Rattle.tas_search.specs.Goal.{value_in};
 ghost use Rattle.tas_search.specs.Outcome.{outcome_of};
+ghost use Rattle.tas_search.specs.Logs.{log_bytes};
+ghost use Rattle.tas_search.specs.Reported.{IsReported, StopsReporting};
 ghost use Rattle.tas_search.specs.Inside.Extremes.{IsExtremeAt, beats};
 
 use crate::arrival::Arrival;
-use crate::frontier::{advance, first_frontier};
+use crate::frontier::{first_frontier, step};
+use crate::limits::Limits;
+use crate::logs::Unfinished;
 use crate::measure::{Measure, value_in};
 use crate::parents::path;
 use crate::searching::Found;
 use crate::space::Space;
-use std::alloc::{AllocError, Allocator};
+use std::alloc::Allocator;
+use std::io::Write;
+use std::thread::Threads;
 
 /// Which value is the best one.
 #[derive(Clone, Copy, Debug, PartialEq, Eq)]
@@ -50,31 +56,47 @@ fn best_place<M: Measure>(aim: Aim, measure: &M, layer: &[Arrival]) -> Option<us
     Some(best)
 }
 
-/// Searches a space, breadth first, for the sequence of exactly `count` choices whose state has the best value; of
-/// those with this value, for the first in the order of the choices.
+/// Searches a space, breadth first, for the sequence of exactly `limits.count` choices whose state has the best value; of
+/// those with this value, for the first in the order of the choices. Writes a line for each layer that was searched whole.
 ///
-/// `Nothing`: each sequence of `count` choices halts before its last one, or there are no choices. `Stopped(k)`:
-/// sequences of `k` choices, `count` at most, reach more than `states` different states, and those of fewer don't.
-/// `Err`: out of memory.
-pub fn find_extreme<M: Measure, A: Allocator + Copy, C: Allocator>(
+/// `Nothing`: each sequence of as many choices halts before its last one, or there are no choices. `Stopped(k)`:
+/// sequences of `k` choices, `limits.count` at most, reach more than `limits.states` different states, and those of fewer
+/// don't. `Err`: out of memory, or a line wasn't written whole.
+pub fn find_extreme<
+    R: Threads + Sync,
+    M: Measure,
+    A: Allocator + Copy + Send + Sync,
+    C: Allocator + Sync,
+    E: Write,
+    P: Write,
+>(
+    rt: &R,
     alloc: A,
     space: &Space<'_, C>,
     aim: Aim,
     measure: &M,
-    count: usize,
-    states: usize,
-) -> Result<Found<A>, AllocError>
+    limits: Limits,
+    errors: &mut E,
+    report: &mut P,
+) -> Result<Found<A>, Unfinished>
     // A search for the greatest or the least value returns the sequence of exactly `count` choices whose machine has
     // the best value, and of those with that value the first. `Nothing`: each sequence of as many choices halts before
     // its end. `Stopped`: the least number of choices, `count` at most, whose sequences reach more than `states`
     // different machines; the other two come only where there is no such number.
     // Refused: later_of_equal_values_wins, last_of_equally_low_values_wins.
-    ensures { IfOk result (λ found. IsExtremeAnswer space.now aim (value_in (M.value measure.now))
-        count states (outcome_of found)) }
+    ensures found { IfOk result (λ found. IsExtremeAnswer space.now aim (value_in (M.value measure.now))
+        limits.count limits.states (outcome_of found)) }
+    // Both writers get the line of each layer that was searched, as from `find_shortest`.
+    // Refused: none, its lines are written by the same code.
+    ensures reported { IfOk result (λ found. IsReported space.now limits.count (outcome_of found)
+        (log_bytes (E.contents errors.old) (P.contents report.old))
+        (log_bytes (E.contents errors.new) (P.contents report.new))) }
+    ensures cut { OnErr result (StopsReporting space.now (log_bytes (E.contents errors.old) (P.contents report.old))
+        (log_bytes (E.contents errors.new) (P.contents report.new))) }
 {
     let mut frontier = first_frontier(alloc, space)?;
-    for depth in 0..count {
-        if !advance(alloc, space, &mut frontier, states)? {
+    for depth in 0..limits.count {
+        if !step(rt, alloc, space, &mut frontier, limits, errors, report)? {
             return Ok(Found::Stopped(depth + 1));
         }
         if frontier.layer.is_empty() {

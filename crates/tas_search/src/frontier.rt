@@ -1,15 +1,23 @@
 //! The frontier of a search: its present layer, and the parent links to it.
 
-ghost use Rattle.std.specs.Prelude.{◌≡◌, ◌+◌, ◌^◌, ◌<◌, true, false, length, IfOk};
+ghost use Rattle.std.specs.Prelude.{◌≡◌, ◌+◌, ◌^◌, ◌<◌, true, false, length, IfOk, IfSome, IfNone, OnErr};
 ghost use Rattle.tas_search.specs.Best.{ReachMoreThan};
+ghost use Rattle.tas_search.specs.LayerLines.{layer_line};
+ghost use Rattle.tas_search.specs.Logs.{Logged, LoggedPart, log_bytes};
 ghost use Rattle.tas_search.specs.Inside.Arrivals.{IsFrontier};
+ghost use Rattle.tas_search.specs.Inside.Counts.{AreCounts};
 
 use crate::arrival::{Arrival, Step};
+use crate::counting::{LayerCounts, count_layer, layer_text};
 use crate::growing::{Layer, grow};
+use crate::limits::Limits;
+use crate::logs::{Unfinished, write_line};
 use crate::parents::keep_steps;
 use crate::space::Space;
 use indexmap::IndexSet;
 use std::alloc::{AllocError, Allocator};
+use std::io::Write;
+use std::thread::Threads;
 
 /// The frontier of a search: a layer, and the parent links to it.
 #[derive(Drop)]
@@ -52,40 +60,86 @@ pub(crate) fn first_frontier<A: Allocator + Copy, C: Allocator>(
     })
 }
 
-/// Moves the frontier on by one choice; `false` where the next layer has more than `most` states.
-pub(crate) fn advance<A: Allocator + Copy, C: Allocator>(
+/// Moves the frontier on by one choice, and returns the numbers of the new layer; `None` where it has more states than the limit.
+fn advance<R: Threads + Sync, A: Allocator + Copy + Send + Sync, C: Allocator + Sync>(
+    rt: &R,
     alloc: A,
     space: &Space<'_, C>,
     frontier: &mut Frontier<A>,
-    most: usize,
-) -> Result<bool, AllocError>
+    limits: Limits,
+) -> Result<Option<LayerCounts>, AllocError>
     requires frontier { IsFrontier space.now frontier.old.depth frontier.old.place
         frontier.old.parents.items frontier.old.layer.keys }
     requires depth { frontier.old.depth + 1 < 2 ^ 64 }
     // Refused: steps_point_one_place_back.
+    ensures moved { IfOk result (λ moved. IfSome moved (λ counts. IsFrontier space.now
+        frontier.new.depth frontier.new.place frontier.new.parents.items frontier.new.layer.keys)) }
+    ensures depth { IfOk result
+        (λ moved. IfSome moved (λ counts. frontier.new.depth ≡ frontier.old.depth + 1)) }
+    ensures fits { IfOk result (λ moved. IfSome moved
+        (λ counts. ReachMoreThan space.now frontier.new.depth limits.states → ⊥)) }
+    ensures over { IfOk result
+        (λ moved. IfNone moved (ReachMoreThan space.now (frontier.old.depth + 1) limits.states)) }
+    // The numbers of a layer are those of the definitions, whatever the number of workers.
+    // Refused: states_of_the_layer_before_are_counted, halted_states_go_on_in_the_counts.
+    ensures counts { IfOk result (λ moved. IfSome moved (AreCounts space.now frontier.new.depth)) }
+{
+    let end = frontier.parents.len();
+    let before = frontier.layer.as_slice();
+    let grown = match grow(rt, alloc, space, before, frontier.place, limits)? {
+        None => return Ok(None),
+        Some(grown) => grown,
+    };
+    let counts = count_layer(space, before, grown.layer.len(), grown.tried)?;
+    keep_steps(grown.layer.as_slice(), &mut frontier.parents)?;
+    frontier.place = end;
+    frontier.depth += 1;
+    frontier.layer = grown.layer;
+    Ok(Some(counts))
+}
+
+/// Moves the frontier on by one choice, and reports the new layer; `false` where it has more states than the limit.
+pub(crate) fn step<
+    R: Threads + Sync,
+    A: Allocator + Copy + Send + Sync,
+    C: Allocator + Sync,
+    E: Write,
+    P: Write,
+>(
+    rt: &R,
+    alloc: A,
+    space: &Space<'_, C>,
+    frontier: &mut Frontier<A>,
+    limits: Limits,
+    errors: &mut E,
+    report: &mut P,
+) -> Result<bool, Unfinished>
+    requires frontier { IsFrontier space.now frontier.old.depth frontier.old.place
+        frontier.old.parents.items frontier.old.layer.keys }
+    requires depth { frontier.old.depth + 1 < 2 ^ 64 }
     ensures moved { IfOk result (λ moved. moved ≡ true → IsFrontier space.now frontier.new.depth
         frontier.new.place frontier.new.parents.items frontier.new.layer.keys) }
     ensures depth { IfOk result
         (λ moved. moved ≡ true → frontier.new.depth ≡ frontier.old.depth + 1) }
     ensures fits { IfOk result
-        (λ moved. moved ≡ true → ReachMoreThan space.now frontier.new.depth most → ⊥) }
+        (λ moved. moved ≡ true → ReachMoreThan space.now frontier.new.depth limits.states → ⊥) }
     ensures over { IfOk result
-        (λ moved. moved ≡ false → ReachMoreThan space.now (frontier.old.depth + 1) most) }
+        (λ moved. moved ≡ false → ReachMoreThan space.now (frontier.old.depth + 1) limits.states) }
+    // A layer that was searched whole is reported, and no other.
+    // Refused: layer_is_reported_one_late, line_is_left_out.
+    ensures line { IfOk result (λ moved. moved ≡ true
+        → Logged (log_bytes (E.contents errors.old) (P.contents report.old))
+        (log_bytes (E.contents errors.new) (P.contents report.new)) (layer_line space.now (frontier.old.depth + 1))) }
+    ensures none { IfOk result (λ moved. moved ≡ false → (log_bytes (E.contents errors.new) (P.contents report.new))
+        ≡ (log_bytes (E.contents errors.old) (P.contents report.old))) }
+    ensures cut { OnErr result
+        (LoggedPart (log_bytes (E.contents errors.old) (P.contents report.old))
+        (log_bytes (E.contents errors.new) (P.contents report.new)) (layer_line space.now (frontier.old.depth + 1))) }
 {
-    let end = frontier.parents.len();
-    let next = match grow(
-        alloc,
-        space,
-        frontier.layer.as_slice(),
-        frontier.place,
-        most,
-    )? {
-        None => return Ok(false),
-        Some(next) => next,
+    let Some(counts) = advance(rt, alloc, space, frontier, limits)? else {
+        return Ok(false);
     };
-    keep_steps(next.as_slice(), &mut frontier.parents)?;
-    frontier.place = end;
-    frontier.depth += 1;
-    frontier.layer = next;
+    let line = layer_text(alloc, space.hold(), frontier.depth, counts)?;
+    write_line(errors, report, line.as_slice())?;
     Ok(true)
 }

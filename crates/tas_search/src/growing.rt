@@ -5,93 +5,183 @@
 //! state that meets the goal has the first sequence. The proofs see layers as lists (`specs/Inside/Layers.antt`); the
 //! definitions of the answers don't name them.
 //!
-//! A state's first choice is played with a look at what it reads (`play_for_lag`): where no frame of it reads the
-//! input, the other choices lead to the same state. The limit of states is compared after all choices of a state, so a
-//! layer may have a few more. A layer without states ends the search.
+//! Workers play stretches of the layer before, each worker one at a time, and list what they reach; one thread puts the
+//! lists into the next layer, in order, so that the layer is the same whatever the workers. Some thousand choices are
+//! played at a time by each worker, so the lists take little beside the layers; the limit of states is compared after
+//! each list. A layer without states ends the search.
 
-ghost use Rattle.std.specs.Prelude.{◌≡◌, ◌+◌, ◌^◌, ◌<◌, ◌≤◌, [], length, OnOk, IfOk, MatchOption};
+ghost use Rattle.std.specs.Prelude.{◌≡◌, ◌+◌, ◌^◌, ◌<◌, ◌≤◌, [], length, true, false, OnOk, IfOk, IfSome, MatchOption};
 ghost use Rattle.indexmap.specs.IndexSet.{insert_all};
 ghost use Rattle.tas_search.specs.Inside.Arrivals.{
   are_same_arrivals,
-  arrival_at,
-  arrivals_of,
   grown_arrivals,
+  tried_of,
+  AreParts,
+  GrowsBy,
+  Lists,
+  TakesParts,
   IsOver,
 };
 
-use crate::arrival::{Arrival, Step};
+use crate::arrival::Arrival;
+use crate::limits::{Limits, MAX_WORKERS};
+use crate::reaching::{Part, reach};
 use crate::space::Space;
 use indexmap::IndexSet;
 use std::alloc::{AllocError, Allocator};
 use std::hash::{BuildHasherDefault, FoldHasher};
-use vcs_machine::State;
+use std::thread::{Threads, map_chunks};
 
 /// The arrivals of a layer, in the order in which they were found, no state twice.
 pub(crate) type Layer<A> = IndexSet<Arrival, BuildHasherDefault<FoldHasher>, A>;
 
-/// Adds what each choice reaches from a state, whose step is at this place of the parent links. A halted state reaches
-/// nothing; where the first choice's frames are lag frames, the others reach the same and aren't played.
-fn add_next<A: Allocator + Copy, C: Allocator>(
-    space: &Space<'_, C>,
-    state: &State,
-    place: usize,
-    next: &mut Layer<A>,
-) -> Result<(), AllocError>
-    ensures { OnOk result (next.new.keys
-        ≡ insert_all are_same_arrivals next.old.keys (arrivals_of space.now state.now place)) }
+/// How many choices a worker plays at a time, about.
+const CHOICES_AT_A_TIME: usize = 4_096;
+
+/// A layer, and how many choices were played for it.
+#[derive(Drop)]
+pub(crate) struct Grown<A: Allocator> {
+    /// The arrivals.
+    pub layer: Layer<A>,
+    /// How many choices were played.
+    pub tried: usize,
+}
+
+/// Puts arrivals into a layer, in order.
+fn insert_each<A: Allocator>(list: &[Arrival], layer: &mut Layer<A>) -> Result<(), AllocError>
+    ensures { OnOk result
+        (layer.new.keys ≡ insert_all are_same_arrivals layer.old.keys list.now) }
 {
-    let count = space.choice_count();
-    if count == 0 || state.halted().is_some() {
-        return Ok(());
-    }
-    let (first, alike) = space.after_choice_noted(state, 0);
-    next.insert(arrival(first, place, 0))?;
-    if alike {
-        return Ok(());
-    }
-    for choice in 1..count {
-        next.insert(arrival(space.after_choice(state, choice), place, choice))?;
+    for arrival in list {
+        layer.insert(*arrival)?;
     }
     Ok(())
 }
 
-/// The arrival at a state by a choice, from the step at a place of the parent links.
-fn arrival(state: State, place: usize, choice: usize) -> Arrival
-    ensures { result ≡ arrival_at state place choice }
+/// Puts what a worker reached into a layer.
+fn take_part<A: Allocator>(part: &Part<A>, grown: &mut Grown<A>) -> Result<(), AllocError>
+    ensures whole { OnOk result (part.now.whole ≡ true) }
+    ensures keys { OnOk result (grown.new.layer.keys
+        ≡ insert_all are_same_arrivals grown.old.layer.keys part.now.list.items) }
+    ensures tried { OnOk result (grown.new.tried ≡ grown.old.tried + length part.now.list.items) }
 {
-    Arrival {
-        state,
-        step: Step {
-            parent: place,
-            choice,
-        },
+    if !part.whole {
+        return Err(AllocError);
     }
+    insert_each(part.list.as_slice(), &mut grown.layer)?;
+    grown.tried = grown.tried.checked_add(part.list.len()).ok_or(AllocError)?;
+    Ok(())
 }
 
-/// The layer after a layer, whose steps are the parent links from `place` on, unless it has more than `most` states.
-pub(crate) fn grow<A: Allocator + Copy, C: Allocator>(
+/// Puts what workers reached from the stretches of a block into a layer, in order; `false` once it has more than `most` states.
+fn take_parts<A: Allocator>(
+    parts: &[Part<A>],
+    grown: &mut Grown<A>,
+    most: usize,
+) -> Result<bool, AllocError>
+    requires { length grown.old.layer.keys ≤ most }
+    ensures { IfOk result (λ fits. TakesParts parts.now grown.old.layer.keys grown.old.tried
+        grown.new.layer.keys grown.new.tried most fits) }
+{
+    for part in parts {
+        take_part(part, grown)?;
+        if grown.layer.len() > most {
+            return Ok(false);
+        }
+    }
+    Ok(true)
+}
+
+/// What workers reach from a block of a layer, whose first step is at this place of the parent links: a part for each stretch of this
+/// many arrivals.
+fn play_parts<R: Threads + Sync, A: Allocator + Copy + Send + Sync, C: Allocator + Sync>(
+    rt: &R,
+    alloc: A,
+    space: &Space<'_, C>,
+    block: &[Arrival],
+    place: usize,
+    stretch: usize,
+) -> Result<Vec<Part<A>, A>, AllocError>
+    requires place { place + length block.now < 2 ^ 64 }
+    requires stretch { 0 < stretch }
+    ensures { IfOk result (λ parts. AreParts space.now place stretch block.now parts.items) }
+{
+    let play = move |start: usize, part: &[Arrival]| -> Part<A>
+        requires { place + start + length part.now < 2 ^ 64 }
+        ensures { result.whole ≡ true
+            → Lists space.entry.now (place + start) part.entry.now result.list.items }
+    { reach(alloc, space, part, place + start) };
+    let parts = map_chunks(rt, alloc, block, stretch, &play)?;
+    Ok(parts)
+}
+
+/// Puts what a block of a layer reaches into the next layer; `false` once that has more states than the limit.
+fn grow_block<R: Threads + Sync, A: Allocator + Copy + Send + Sync, C: Allocator + Sync>(
+    rt: &R,
+    alloc: A,
+    space: &Space<'_, C>,
+    block: &[Arrival],
+    place: usize,
+    limits: Limits,
+    grown: &mut Grown<A>,
+) -> Result<bool, AllocError>
+    requires place { place + length block.now < 2 ^ 64 }
+    requires fits { length grown.old.layer.keys ≤ limits.states }
+    ensures { IfOk result (λ fits. GrowsBy space.now place block.now grown.old.layer.keys grown.old.tried
+        grown.new.layer.keys grown.new.tried limits.states fits) }
+{
+    let workers = limits.workers.clamp(1, MAX_WORKERS);
+    let stretch = block.len().div_ceil(workers).max(1);
+    let parts = play_parts(rt, alloc, space, block, place, stretch)?;
+    let fits = take_parts(parts.as_slice(), grown, limits.states)?;
+    Ok(fits)
+}
+
+/// How many states are played at a time.
+fn block_size(choices: usize, workers: usize) -> usize
+    ensures { 0 < result }
+{
+    let each = (CHOICES_AT_A_TIME / choices.max(1)).max(1);
+    each * workers.clamp(1, MAX_WORKERS)
+}
+
+/// The layer after a layer, whose steps are the parent links from `place` on, unless it has more states than the limit.
+pub(crate) fn grow<R: Threads + Sync, A: Allocator + Copy + Send + Sync, C: Allocator + Sync>(
+    rt: &R,
     alloc: A,
     space: &Space<'_, C>,
     layer: &[Arrival],
     place: usize,
-    most: usize,
-) -> Result<Option<Layer<A>>, AllocError>
+    limits: Limits,
+) -> Result<Option<Grown<A>>, AllocError>
     requires { place + length layer.now < 2 ^ 64 }
     // The layer after a layer has what each choice reaches from each of its states, in this order, each state
     // once; halted states reach nothing. So each machine that sequences of a length reach is in the layer of that
-    // length, with the first of these sequences.
+    // length, with the first of these sequences, whatever the number of workers.
     // Refused: last_state_of_a_layer_is_left_out, last_choice_is_left_out, first_choice_stands_for_all,
-    // halted_state_goes_on, limit_is_one_state_too_small.
-    ensures { IfOk result (λ grown. MatchOption grown (IsOver space.now layer.now place most)
-        (λ next. (next.keys ≡ grown_arrivals space.now [] place layer.now)
-        × (length next.keys ≤ most))) }
+    // halted_state_goes_on, limit_is_one_state_too_small, part_of_a_worker_is_lost, later_part_is_put_in_first,
+    // refused_part_is_taken_for_whole.
+    ensures layer { IfOk result (λ grown. MatchOption grown (IsOver space.now layer.now place limits.states)
+        (λ next. (next.layer.keys ≡ grown_arrivals space.now [] place layer.now)
+        × (length next.layer.keys ≤ limits.states))) }
+    // Each choice that is played is counted.
+    // Refused: choices_of_the_last_part_alone_are_counted.
+    ensures tried { IfOk result (λ grown. IfSome grown (λ next. next.tried ≡ tried_of space.now layer.now)) }
 {
-    let mut next = IndexSet::new(alloc);
-    for (j, arrival) in layer.iter().enumerate() {
-        add_next(space, &arrival.state, place + j, &mut next)?;
-        if next.len() > most {
+    let size = block_size(space.choice_count(), limits.workers);
+    let mut grown = Grown {
+        layer: IndexSet::new(alloc),
+        tried: 0,
+    };
+    let mut at = 0;
+    while at < layer.len() {
+        let end = at + size.min(layer.len() - at);
+        let block = &layer[at..end];
+        let fits = grow_block(rt, alloc, space, block, place + at, limits, &mut grown)?;
+        if !fits {
             return Ok(None);
         }
+        at = end;
     }
-    Ok(Some(next))
+    Ok(Some(grown))
 }

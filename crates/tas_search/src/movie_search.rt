@@ -3,17 +3,23 @@
 ghost use Rattle.std.specs.Prelude.{◌≡◌, ◌+◌, ◌*◌, ◌≤◌, ◌↔◌, IsTrue, IfOk, IfErr};
 ghost use Rattle.tas_movie.specs.Content.{most_inputs};
 ghost use Rattle.tas_search.specs.declared.movie_search.SearchFault.TheVariants.{Memory as Refused};
-ghost use Rattle.tas_search.specs.MovieSearch.{IsMovieAnswer, IsSearchFault};
+ghost use Rattle.tas_search.specs.MovieSearch.{IsMovieAnswer, IsSearchFault, fault_of, space_of, StopsSearching};
 ghost use Rattle.tas_search.specs.Outcome.{outcome_of};
+ghost use Rattle.tas_search.specs.Logs.{log_bytes};
+ghost use Rattle.tas_search.specs.Reported.{IsReported};
 ghost use Rattle.tas_search.specs.Inside.FoundChanges.{FitsMovie, AreChangesOf};
 
 use crate::changes::{answer_changes, changes_write_the_sequence};
 use crate::goal::Goal;
 use crate::goal_search::find_goal;
+use crate::limits::Limits;
+use crate::logs::Unfinished;
 use crate::searching::Found;
 use crate::space::Space;
 use crate::starting::state_at;
 use std::alloc::{AllocError, Allocator};
+use std::io::Write;
+use std::thread::Threads;
 use tas_language::Change;
 use tas_movie::{MAX_FRAMES, Movie};
 use thiserror::Error;
@@ -30,6 +36,8 @@ pub struct SearchRange {
     pub hold: usize,
     /// How many different states of one number of choices are kept at most.
     pub states: usize,
+    /// How many workers play a layer ([`Limits::workers`]).
+    pub workers: usize,
 }
 
 /// Why a movie's space wasn't searched.
@@ -44,6 +52,9 @@ pub enum SearchFault {
     /// With the longest sequences the movie would be too long.
     #[error("movie gets too long")]
     Long,
+    /// A line of the report wasn't written whole.
+    #[error("report: write failed")]
+    Report,
     /// Out of memory.
     #[error("out of memory")]
     Memory,
@@ -54,6 +65,17 @@ impl From<AllocError> for SearchFault {
 
     fn from(_error: AllocError) -> SearchFault {
         SearchFault::Memory
+    }
+}
+
+impl From<Unfinished> for SearchFault {
+    ghost from_gives = { λ end fault. fault ≡ fault_of end };
+
+    fn from(end: Unfinished) -> SearchFault {
+        match end {
+            Unfinished::Report => SearchFault::Report,
+            Unfinished::Memory => SearchFault::Memory,
+        }
     }
 }
 
@@ -86,16 +108,19 @@ fn found_changes<A: Allocator, C: Allocator>(
 }
 
 /// Searches the space of some choices after a movie's first frames for what a goal asks, and returns what was found with the changes
-/// that write it into the movie: none where no sequence was found.
+/// that write it into the movie: none where no sequence was found. Writes a line for each layer that was searched whole.
 ///
 /// Faults, in order: `Short` where the movie has fewer frames than the search begins after, `Hold` where a choice is held for no
-/// frame, `Long` where the movie would get too long; `Memory` at any point after these.
-pub fn search_movie<A: Allocator + Copy>(
+/// frame, `Long` where the movie would get too long; `Memory` and `Report` at any point after these.
+pub fn search_movie<R: Threads + Sync, A: Allocator + Copy + Send + Sync, E: Write, P: Write>(
+    rt: &R,
     alloc: A,
     movie: &Movie<A>,
     choices: &[Input],
     goal: &Goal,
     range: SearchRange,
+    errors: &mut E,
+    report: &mut P,
 ) -> Result<(Found<A>, Vec<Change, A>), SearchFault>
     // A movie's space begins with the machine after its first frames, and is searched whole for what the goal
     // asks; with the answer come the changes that write it into the movie. Where the movie has fewer frames, a choice
@@ -107,6 +132,14 @@ pub fn search_movie<A: Allocator + Copy>(
     ensures found { IfOk result (λ r. IsMovieAnswer movie.now choices.now goal.now.kind
         goal.now.formula range (outcome_of r.0) r.1.items) }
     ensures fault { IfErr result (IsSearchFault movie.now range) }
+    // Each layer that was searched has its line in the report; where the space can't be searched, the report has none.
+    // Refused: none, the lines are those of `find_goal`.
+    ensures reported { IfOk result (λ r. IsReported (space_of movie.now choices.now range)
+        range.count (outcome_of r.0) (log_bytes (E.contents errors.old) (P.contents report.old))
+        (log_bytes (E.contents errors.new) (P.contents report.new))) }
+    ensures cut { IfErr result
+        (StopsSearching (space_of movie.now choices.now range) (log_bytes (E.contents errors.old) (P.contents report.old))
+        (log_bytes (E.contents errors.new) (P.contents report.new))) }
 {
     if movie.len() < range.from {
         return Err(SearchFault::Short(movie.len()));
@@ -119,7 +152,12 @@ pub fn search_movie<A: Allocator + Copy>(
     }
     let start = state_at(movie, range.from);
     let space = Space::new(movie.cart(), start, choices, range.hold);
-    let found = find_goal(alloc, &space, goal, range.count, range.states)?;
+    let limits = Limits {
+        count: range.count,
+        states: range.states,
+        workers: range.workers,
+    };
+    let found = find_goal(rt, alloc, &space, goal, limits, errors, report)?;
     // Called for its law.
     changes_write_the_sequence();
     let changes = found_changes(alloc, &space, movie.len(), range.from, &found)?;

@@ -1,7 +1,12 @@
-//! A search of a movie, over readers and a writer.
+//! A search of a movie, over readers and writers.
+//!
+//! Conversations have no line for it. A search reads its movie whole and returns the changes that an edit makes, so over a seat's view it would be
+//! `search_movie` on the view's movie, with the reply of an edit for each change; but a seat's lines are answered one after the other, and this one
+//! would take minutes. It would need a thread of its own beside the conversation, and a line to ask how far it is and to stop it.
 
 ghost use Rattle.std.specs.Prelude.{◌≡◌, map};
 ghost use Rattle.tas_search.specs.SearchText.{inputs_of};
+ghost use Rattle.tas_search.specs.Logs.{log_bytes};
 ghost use Rattle.tas_search.specs.SearchRun.{Ends, IsSearchRun, given_bytes, movie_place, names_place, read_inputs};
 
 use crate::answering::{SearchBytes, SearchText, search_text};
@@ -10,6 +15,7 @@ use crate::search_error::SearchError;
 use crate::search_request::Search;
 use std::alloc::Global;
 use std::io::{Read, Write};
+use std::thread::Threads;
 use tas_engines::write_all;
 
 /// The place of the names among the inputs.
@@ -51,19 +57,23 @@ fn search_bytes<'a>(search: &Search<'_>, inputs: &'a [Vec<u8>]) -> SearchBytes<'
     }
 }
 
-/// Searches by these inputs, writes the script and returns the report.
-fn answer<W: Write>(
+/// Searches by these inputs, writes the script and returns the verdict.
+fn answer<R: Threads + Sync, W: Write, E: Write, P: Write>(
+    rt: &R,
     alloc: Global,
     search: &Search<'_>,
     inputs: &[Vec<u8>],
     output: &mut W,
+    errors: &mut E,
+    report: &mut P,
 ) -> Result<Vec<u8>, SearchError>
     ensures { Ends (λ report. report.items)
         (read_inputs search.now (map (λ bytes. bytes.items) inputs.now)) (W.contents output.old)
-        (W.contents output.new) result }
+        (W.contents output.new) (log_bytes (E.contents errors.old) (P.contents report.old))
+        (log_bytes (E.contents errors.new) (P.contents report.new)) result }
 {
     let bytes = search_bytes(search, inputs);
-    match search_text(alloc, search, &bytes) {
+    match search_text(rt, alloc, search, &bytes, errors, report) {
         Err(error) => Err(error),
         Ok(SearchText { script, report }) => match write_all(output, script.as_slice()) {
             Err(fault) => Err(SearchError::Run(fault)),
@@ -73,26 +83,31 @@ fn answer<W: Write>(
 }
 
 /// Reads the files, which are the cartridge, the choices where they are those of a file, and the names where they are, and then the movie's
-/// text; searches, writes the script and returns the report.
+/// text; searches, with a line for each layer to both logs, writes the script and returns the verdict.
 ///
 /// Faults, in order: `Read` of the first input that isn't read whole, and those after it are left untouched; then those of
-/// [`search_text`](crate::search_text), and nothing is written; `Run` of a write that failed.
-pub fn search_run<F: Read, R: Read, W: Write>(
+/// [`search_text`](crate::search_text), and nothing is written but lines of layers; `Run` of a write of the script that failed.
+pub fn search_run<T: Threads + Sync, F: Read, R: Read, W: Write, E: Write, P: Write>(
+    rt: &T,
     alloc: Global,
     search: &Search<'_>,
     files: &mut [F],
     input: &mut R,
     output: &mut W,
+    errors: &mut E,
+    report: &mut P,
 ) -> Result<Vec<u8>, SearchError>
-    // A search reads its inputs whole, in order, writes the script that `search_text` makes of their bytes and returns its report; or reports the
-    // fault with nothing written. After a write that failed the first bytes of the script are out, as many as it reports.
+    // A search reads its inputs whole, in order, writes the lines of its layers and then the script that `search_text` makes of their bytes, and
+    // returns its verdict; or reports the fault with no script written. After a write of the script that failed its first bytes are out, as many
+    // as it reports.
     // Refused: last_byte_of_the_script_is_left_out, report_of_a_search_is_its_script,
     // names_are_read_from_the_choices_file.
     ensures { IsSearchRun (λ report. report.items) search.now (map F.remaining files.old) (map F.remaining files.new)
         (R.remaining input.old) (R.remaining input.new) (W.contents output.old)
-        (W.contents output.new) result }
+        (W.contents output.new) (log_bytes (E.contents errors.old) (P.contents report.old))
+        (log_bytes (E.contents errors.new) (P.contents report.new)) result }
 {
     let mut inputs = read_all(alloc, files)?;
     read_onto(alloc, &mut inputs, input)?;
-    answer(alloc, search, inputs.as_slice(), output)
+    answer(rt, alloc, search, inputs.as_slice(), output, errors, report)
 }

@@ -16,6 +16,8 @@ pub struct Search<'a> {
     pub hold: usize,
     /// How many different states of one number of choices are kept at most.
     pub states: usize,
+    /// How many workers play a layer: 1 to 16. No answer depends on it.
+    pub workers: usize,
     /// Whether the choices are those of a file. Else they are the left stick's ([`stick_choices`](crate::stick_choices)).
     pub has_choices: bool,
     /// Whether the names are those of a file. Else there are none.
@@ -43,5 +45,6 @@ pub(crate) fn range_of(search: &Search<'_>) -> Option<SearchRange>
         count: search.frames / search.hold,
         hold: search.hold,
         states: search.states,
+        workers: search.workers,
     })
 }

@@ -1,17 +1,23 @@
 //! The search for the shortest sequence.
 
-ghost use Rattle.std.specs.Prelude.{◌≡◌, IfOk};
+ghost use Rattle.std.specs.Prelude.{◌≡◌, IfOk, OnErr};
 ghost use Rattle.std.specs.List.{position};
 ghost use Rattle.tas_search.specs.Best.{IsReachAnswer};
 ghost use Rattle.tas_search.specs.Goal.{holds_of};
 ghost use Rattle.tas_search.specs.Outcome.{outcome_of};
+ghost use Rattle.tas_search.specs.Logs.{log_bytes};
+ghost use Rattle.tas_search.specs.Reported.{IsReported, StopsReporting};
 
 use crate::arrival::Arrival;
-use crate::frontier::{advance, first_frontier};
+use crate::frontier::{first_frontier, step};
+use crate::limits::Limits;
+use crate::logs::Unfinished;
 use crate::measure::{Measure, holds};
 use crate::parents::path;
 use crate::space::Space;
-use std::alloc::{AllocError, Allocator, Global};
+use std::alloc::{Allocator, Global};
+use std::io::Write;
+use std::thread::Threads;
 
 /// What a search found. [`find_shortest`] and [`find_extreme`](crate::find_extreme) say what each means for them.
 #[derive(Drop)]
@@ -31,35 +37,53 @@ fn first_meeting<M: Measure>(goal: &M, layer: &[Arrival]) -> Option<usize>
     layer.iter().position(|arrival| holds(goal, &arrival.state))
 }
 
-/// Searches a space, breadth first, for the shortest sequence of at most `most` choices after which the goal holds,
-/// that is its number isn't 0; of those of its length, for the first in the order of the choices.
+/// Searches a space, breadth first, for the shortest sequence of at most `limits.count` choices after which the goal holds,
+/// that is its number isn't 0; of those of its length, for the first in the order of the choices. Writes a line for each layer
+/// that was searched whole.
 ///
-/// `Nothing`: there is none. `Stopped(k)`: sequences of `k` choices reach more than `states` different states, those of
-/// fewer don't, and after none of fewer does the goal hold. `Err`: out of memory.
-pub fn find_shortest<M: Measure, A: Allocator + Copy, C: Allocator>(
+/// `Nothing`: there is none. `Stopped(k)`: sequences of `k` choices reach more than `limits.states` different states, those of
+/// fewer don't, and after none of fewer does the goal hold. `Err`: out of memory, or a line wasn't written whole.
+pub fn find_shortest<
+    R: Threads + Sync,
+    M: Measure,
+    A: Allocator + Copy + Send + Sync,
+    C: Allocator + Sync,
+    E: Write,
+    P: Write,
+>(
+    rt: &R,
     alloc: A,
     space: &Space<'_, C>,
     goal: &M,
-    most: usize,
-    states: usize,
-) -> Result<Found<A>, AllocError>
-    // A search for the shortest sequence ends with one of three answers. The sequence that it returns is of the space
-    // and of at most `most` choices; the machine after it meets the goal; no sequence of fewer choices meets it, and of
-    // those with as many that do it is the first in the order of the choices. `Nothing`: no sequence of at most `most`
-    // choices meets it. `Stopped`: none of fewer choices than it says meets it, and this is the least number of choices
-    // whose sequences reach more than `states` different machines. So the other two come only where no number of
-    // choices up to the answer's, or up to `most`, reaches more.
+    limits: Limits,
+    errors: &mut E,
+    report: &mut P,
+) -> Result<Found<A>, Unfinished>
+    // A search for the shortest sequence ends with one of three answers, whatever the number of workers. The sequence
+    // that it returns is of the space and of at most `count` choices; the machine after it meets the goal; no sequence of
+    // fewer choices meets it, and of those with as many that do it is the first in the order of the choices. `Nothing`:
+    // no sequence of at most `count` choices meets it. `Stopped`: none of fewer choices than it says meets it, and this
+    // is the least number of choices whose sequences reach more than `states` different machines. So the other two come
+    // only where no number of choices up to the answer's, or up to `count`, reaches more.
     // Refused: goal_is_not_looked_at_before_the_first_choice, stop_is_reported_as_none, stop_names_the_layer_before,
-    // layer_over_the_limit_is_kept, search_ends_one_choice_early.
-    ensures { IfOk result (λ found. IsReachAnswer space.now (holds_of (M.value goal.now)) most states
-        (outcome_of found)) }
+    // layer_over_the_limit_is_kept, search_ends_one_choice_early, goal_is_looked_at_one_choice_late.
+    ensures found { IfOk result (λ found. IsReachAnswer space.now (holds_of (M.value goal.now))
+        limits.count limits.states (outcome_of found)) }
+    // Both writers get the line of each layer that was searched, with its numbers, in order; where the search isn't
+    // finished, a beginning of such lines.
+    // Refused: none, a line that is left out or of another layer is refused at `step`.
+    ensures reported { IfOk result (λ found. IsReported space.now limits.count (outcome_of found)
+        (log_bytes (E.contents errors.old) (P.contents report.old))
+        (log_bytes (E.contents errors.new) (P.contents report.new))) }
+    ensures cut { OnErr result (StopsReporting space.now (log_bytes (E.contents errors.old) (P.contents report.old))
+        (log_bytes (E.contents errors.new) (P.contents report.new))) }
 {
     if holds(goal, &space.start()) {
         return Ok(Found::Best(Vec::new(alloc)));
     }
     let mut frontier = first_frontier(alloc, space)?;
-    for depth in 0..most {
-        if !advance(alloc, space, &mut frontier, states)? {
+    for depth in 0..limits.count {
+        if !step(rt, alloc, space, &mut frontier, limits, errors, report)? {
             return Ok(Found::Stopped(depth + 1));
         }
         if let Some(i) = first_meeting(goal, frontier.layer.as_slice()) {

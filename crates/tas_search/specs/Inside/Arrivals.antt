@@ -1,11 +1,13 @@
 -- Arrivals: what the code keeps of a layer, and the parent links that lead back from each of them.
-use Rattle.std.specs.Prelude.{◌≡◌, ℕ, zero, suc, ◌+◌, ◌<◌, List, [], ◌∷◌, ◌++◌, length, map, take, drop, slice_index_or, Bool}
+use Rattle.std.specs.Prelude.{◌≡◌, ℕ, zero, suc, ◌+◌, ◌<◌, List, [], ◌∷◌, ◌++◌, length, map, take, drop, slice_index_or, Bool, true, false, sum_by, fold, ◌≤◌, ◌*◌}
 use Rattle.vcs_machine.specs.Equality.{are_same_machines}
 use Rattle.vcs_machine.specs.Machine.{Machine, unless_halted}
 use Rattle.indexmap.specs.IndexSet.{insert_all}
 use Rattle.tas_search.specs.declared.arrival.Arrival.{Arrival}
 use Rattle.tas_search.specs.declared.arrival.Step.{Step}
+use Rattle.tas_search.specs.declared.reaching.Part.{Part}
 use Rattle.tas_search.specs.Space.{SpaceContent, after_choice}
+use Rattle.tas_search.specs.LayerLines.{tried}
 use Rattle.tas_search.specs.Inside.Layers.{Reached, layer_of}
 
 -- whether two arrivals are at one machine
@@ -61,3 +63,51 @@ pub record IsFrontier (s : SpaceContent) (depth place : ℕ) (parents : List Ste
 -- what shows that the layer after some arrivals has more than so many members: a part of it has
 abbrev pub IsOver : SpaceContent → List Arrival → ℕ → ℕ → Type 0
 IsOver s bs place most = (j : ℕ) × (most < length (grown_arrivals s [] place (take j bs)))
+
+-- how many choices are played from some arrivals
+abbrev pub tried_of : SpaceContent → List Arrival → ℕ
+tried_of s bs = sum_by (λ a. tried s a.state) bs
+
+-- a list of what some arrivals reach, of which the first one's step is at this place: after it a layer has what it would have after all that they reach
+pub record Lists (s : SpaceContent) (place : ℕ) (bs list : List Arrival) : Type 0 where
+  pub adds : (next : List Arrival) → insert_all are_same_arrivals next list ≡ grown_arrivals s next place bs
+  pub count : length list ≡ tried_of s bs
+
+-- a list that goes on with what a machine's choices reach
+pub record ListsOneMore (s : SpaceContent) (m : Machine) (place : ℕ) (old new : List Arrival) : Type 0 where
+  pub adds : (next : List Arrival) → insert_all are_same_arrivals next new ≡ insert_all are_same_arrivals (insert_all are_same_arrivals next old) (arrivals_of s m place)
+  pub count : length new ≡ length old + tried s m
+
+-- stretch number k of some arrivals
+abbrev pub stretch_at : List Arrival → ℕ → ℕ → List Arrival
+stretch_at bs size k = take size (drop (k * size) bs)
+
+-- the parts that workers made of the stretches of some arrivals, as far as memory was there
+pub record AreParts {Z : Type 0} (s : SpaceContent) (place size : ℕ) (bs : List Arrival) (parts : List (Part Z)) : Type 0 where
+  pub all : length bs ≤ length parts * size
+  pub within : (k : ℕ) → k < length parts → k * size ≤ length bs
+  pub each : (k : ℕ) (d : Part Z) → k < length parts → (slice_index_or parts k d).whole ≡ true → Lists s (place + k * size) (stretch_at bs size k) (slice_index_or parts k d).list.items
+
+-- a layer after the arrivals of some parts
+abbrev pub with_parts : {Z : Type 0} → List Arrival → List (Part Z) → List Arrival
+with_parts next parts = fold (λ ks p. insert_all are_same_arrivals ks p.list.items) next parts
+
+-- how many arrivals they have
+abbrev pub listed_of : {Z : Type 0} → List (Part Z) → ℕ
+listed_of parts = sum_by (λ p. length p.list.items) parts
+
+-- the first k parts were put into a layer: none of them lacks anything
+pub record TakesFirst {Z : Type 0} (parts : List (Part Z)) (old new : List Arrival) (k : ℕ) : Type 0 where
+  pub within : k ≤ length parts
+  pub whole : (i : ℕ) (d : Part Z) → i < k → (slice_index_or parts i d).whole ≡ true
+  pub keys : new ≡ with_parts old (take k parts)
+
+-- all parts were put into a layer, and counted; or some, and it has more than so many members
+abbrev pub TakesParts : {Z : Type 0} → List (Part Z) → (old : List Arrival) → (count : ℕ) → (new : List Arrival) → (count' most : ℕ) → Bool → Type 0
+TakesParts parts old count new count' most true = TakesFirst parts old new (length parts) × (count' ≡ count + listed_of parts) × (length new ≤ most)
+TakesParts parts old count new count' most false = (k : ℕ) × TakesFirst parts old new k × (most < length new)
+
+-- what some arrivals reach was put into a layer, and what was played for it counted; or with what some of them reach it has more than so many members
+abbrev pub GrowsBy : SpaceContent → ℕ → List Arrival → (old : List Arrival) → (count : ℕ) → (new : List Arrival) → (count' most : ℕ) → Bool → Type 0
+GrowsBy s place bs old count new count' most true = (new ≡ grown_arrivals s old place bs) × (count' ≡ count + tried_of s bs) × (length new ≤ most)
+GrowsBy s place bs old count new count' most false = (j : ℕ) × (most < length (grown_arrivals s old place (take j bs)))

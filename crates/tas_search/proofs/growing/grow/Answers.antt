@@ -1,23 +1,22 @@
-use Rattle.std.proofs.lemmas.Grind.{common_steps}
-use Rattle.std.proofs.Common.{◌≡◌, ◌+◌, [], length, take, ap, arith}
-use Rattle.tas_search.specs.Inside.Arrivals.{grown_arrivals}
-use Rattle.tas_search.proofs.CodeLemmas.{grown_more}
+use Rattle.std.proofs.Common.{◌≡◌, ◌+◌, ◌-◌, ◌≤◌, length, take, drop, refl, sym, ap, subst, ◌∙◌, arith}
+use Rattle.std.specs.Prelude.{Bool}
+use Rattle.std.proofs.lemmas.List.{take_all}
+use Rattle.tas_search.specs.Inside.Arrivals.{GrowsBy, grown_arrivals, tried_of}
+use Rattle.tas_search.proofs.GrowLemmas.{blocks_grow, blocks_over}
 use Rattle.tas_search.proofs.growing.grow.Goals as goal
 
-pub returns-then-len-most : goal.returns-then-len-most
-returns-then-len-most g c =
-    let is : c.add_next.new.next.keys ≡ grown_arrivals c.args.space.now [] c.args.place (take (c.loop-j.j + 1) c.args.layer.now) =
-    grown_more c.args.space.now c.args.layer.now c.loop-j.next.keys c.add_next.new.next.keys c.args.place c.loop-j.j c.index-layer-j.result
-    (omega (arith, c.loop-j-test.true)) c.index-layer-j.is c.loop-j.invariant.grown c.in_ok-add_next.ensures in
-    (c.loop-j.j + 1, omega (arith, ap length is, c.len.ensures.len, c.if-len-most.true))
+pub loop-at-preserved : goal.loop-at-preserved
+loop-at-preserved g c =
+    let inv = c.loop-at.invariant in
+    let all = blocks_grow c.args.space.now c.args.place c.loop-at.at (c.loop-at.at + c.min.result) c.args.limits.states c.args.layer.now _ c.loop-at.grown.layer.keys c.grow_block.new.grown.layer.keys c.loop-at.grown.tried c.grow_block.new.grown.tried
+    (omega arith) (omega (arith, inv.within)) refl inv.grown inv.tried (rw c.if-not-fits.false at c.in_ok-fits.ensures) in
+    record { within = omega (arith, inv.within); grown = all.0; tried = all.1; fits = all.2 }
 
-pub loop-j-preserved : goal.loop-j-preserved
-loop-j-preserved g c = record {
-  grown =
-      grown_more c.args.space.now c.args.layer.now c.loop-j.next.keys c.add_next.new.next.keys c.args.place c.loop-j.j c.index-layer-j.result
-      (omega (arith, c.loop-j-test.true)) c.index-layer-j.is c.loop-j.invariant.grown c.in_ok-add_next.ensures;
-  fits = omega (arith, c.len.ensures.len, c.if-len-most.false);
-}
-
-pub returns : goal.returns
-returns g c = grind (arith, common_steps)
+pub returns-then-not-fits : goal.returns-then-not-fits
+returns-then-not-fits g c =
+    let inv = c.loop-at.invariant in
+    record {
+      layer = blocks_over c.args.space.now c.args.place c.loop-at.at (c.loop-at.at + c.min.result) c.args.limits.states c.args.layer.now _ c.loop-at.grown.layer.keys c.grow_block.new.grown.layer.keys c.loop-at.grown.tried
+          c.grow_block.new.grown.tried (omega arith) (omega (arith, inv.within)) refl inv.grown (rw c.if-not-fits.true at c.in_ok-fits.ensures);
+      tried = tt;
+    }

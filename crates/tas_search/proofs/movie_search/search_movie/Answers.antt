@@ -1,12 +1,15 @@
 use Rattle.std.proofs.lemmas.Grind.{common_steps}
-use Rattle.std.proofs.Common.{◌≡◌, ℕ, ◌+◌, ◌*◌, ◌≤◌, length, refl, ap, subst, ◌∙◌, arith}
+use Rattle.std.proofs.Common.{◌≡◌, ℕ, ◌+◌, ◌*◌, ◌≤◌, length, refl, Err, ap, subst, ◌∙◌, arith}
 use Rattle.tas_movie.specs.Content.{most_inputs}
 use Rattle.tas_search.specs.Space.{SpaceContent}
 use Rattle.tas_search.specs.Outcome.{outcome_of}
 use Rattle.tas_search.specs.GoalAnswer.{IsGoalAnswer}
+use Rattle.std.proofs.lemmas.Result.{err_from_is_err_and}
+use Rattle.tas_search.specs.Logs.{log_bytes}
+use Rattle.tas_search.specs.Reported.{IsReported}
 use Rattle.tas_search.specs.MovieSearch.{space_of}
 use Rattle.tas_search.specs.Inside.FoundChanges.{AreChangesOf}
-use Rattle.tas_search.proofs.MovieSearchLemmas.{found_fits, writes_found}
+use Rattle.tas_search.proofs.MovieSearchLemmas.{found_fits, reported_stops, writes_found}
 use Rattle.tas_search.proofs.movie_search.search_movie.Goals as goal
 
 pub found_changes-requires : goal.found_changes-requires
@@ -14,7 +17,7 @@ found_changes-requires g c =
     let range = c.args.range in
     let hold : c.new-space.result.hold ≡ range.hold = ap (λ (s : SpaceContent). s.hold) c.new-space.ensures in
     let le : range.from + range.count * range.hold ≤ most_inputs = c.fits.ensures.0 c.if-not-fits.false in
-    record { fits = found_fits c.new-space.result c.args.goal.now.kind c.args.goal.now.formula range.count range.states range.from (outcome_of c.in_ok-found.found) (rw hold le) c.in_ok-found.ensures }
+    record { fits = found_fits c.new-space.result c.args.goal.now.kind c.args.goal.now.formula range.count range.states range.from (outcome_of c.in_ok-found.found) (rw hold le) c.in_ok-found.ensures.found }
 
 pub returns-clause-found : goal.returns-clause-found
 returns-clause-found g c =
@@ -27,7 +30,7 @@ returns-clause-found g c =
     let space : c.new-space.result ≡ space_of movie choices range = c.new-space.ensures ∙ rw (c.cart.ensures, c.state_at-start.ensures) refl in
     let le : range.from + range.count * range.hold ≤ most_inputs = c.fits.ensures.0 c.if-not-fits.false in
     let answer : IsGoalAnswer (space_of movie choices range) kind formula range.count range.states found =
-    subst (λ (s : SpaceContent). IsGoalAnswer s kind formula range.count range.states found) space c.in_ok-found.ensures in
+    subst (λ (s : SpaceContent). IsGoalAnswer s kind formula range.count range.states found) space c.in_ok-found.ensures.found in
     let are : AreChangesOf (length movie.inputs) range.from (space_of movie choices range) found c.in_ok-changes.changes.items =
     subst (λ (s : SpaceContent). AreChangesOf (length movie.inputs) range.from s found c.in_ok-changes.changes.items) space
     (subst (λ (n : ℕ). AreChangesOf n range.from c.new-space.result found c.in_ok-changes.changes.items) c.len-2.ensures.len c.in_ok-changes.ensures) in (
@@ -37,8 +40,14 @@ returns-clause-found g c =
           (found_fits (space_of movie choices range) kind formula range.count range.states range.from found le answer) are,
     )
 
-pub returns-in_err-changes-clause-fault : goal.returns-in_err-changes-clause-fault
-returns-in_err-changes-clause-fault g c = grind (arith, common_steps)
+pub returns-clause-reported : goal.returns-clause-reported
+returns-clause-reported g c =
+    let space : c.new-space.result ≡ space_of c.args.movie.now c.args.choices.now c.args.range = c.new-space.ensures ∙ rw (c.cart.ensures, c.state_at-start.ensures) refl in
+    subst (λ (s : SpaceContent). IsReported s c.args.range.count (outcome_of c.in_ok-found.found) (log_bytes (g.E.Write.contents c.args.errors.now) (g.P.Write.contents c.args.report.now)) (log_bytes (g.E.Write.contents c.find_goal.new.errors) (g.P.Write.contents c.find_goal.new.report))) space c.in_ok-found.ensures.reported
 
-pub returns-in_err-found-clause-fault : goal.returns-in_err-found-clause-fault
-returns-in_err-found-clause-fault g c = grind (arith, common_steps)
+pub returns-in_err-changes-clause-cut : goal.returns-in_err-changes-clause-cut
+returns-in_err-changes-clause-cut g c =
+    let space : c.new-space.result ≡ space_of c.args.movie.now c.args.choices.now c.args.range = c.new-space.ensures ∙ rw (c.cart.ensures, c.state_at-start.ensures) refl in
+    let told = err_from_is_err_and c.from_residual-in_err-changes.result c.from_residual-in_err-changes.ensures.1 in
+    let reported = subst (λ (s : SpaceContent). IsReported s c.args.range.count (outcome_of c.in_ok-found.found) (log_bytes (g.E.Write.contents c.args.errors.now) (g.P.Write.contents c.args.report.now)) (log_bytes (g.E.Write.contents c.find_goal.new.errors) (g.P.Write.contents c.find_goal.new.report))) space c.in_ok-found.ensures.reported in
+    rw (told.1 ∙ ap Err told.2) (reported_stops (space_of c.args.movie.now c.args.choices.now c.args.range) c.args.range.count (outcome_of c.in_ok-found.found) (log_bytes (g.E.Write.contents c.args.errors.now) (g.P.Write.contents c.args.report.now)) (log_bytes (g.E.Write.contents c.find_goal.new.errors) (g.P.Write.contents c.find_goal.new.report)) reported)
