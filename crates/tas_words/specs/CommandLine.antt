@@ -177,7 +177,8 @@ next_shapes =
     ∷ shape_with (codes "recover") (cart_rule ∷ number_flag_rule (codes "LINE") (codes "until") 1 most_line ∷ file_output_rule ∷ [])
     ∷ shape_with (codes "search") (cart_rule ∷ frame_rule (codes "FROM") ∷ number_rule (codes "FRAMES") 0 most_inputs ∷ word_rule (codes "GOAL") None
     ∷ flag_rule (codes "CHOICES") (codes "choices") ∷ flag_rule (codes "NAMES") (codes "names")
-    ∷ number_flag_rule (codes "N") (codes "hold") 1 most_inputs ∷ number_flag_rule (codes "STATES") (codes "most") 1 most_number ∷ [])
+    ∷ number_flag_rule (codes "N") (codes "hold") 1 most_inputs ∷ number_flag_rule (codes "STATES") (codes "most") 1 most_number
+    ∷ number_flag_rule (codes "WORKERS") (codes "workers") 1 most_workers ∷ flag_rule (codes "REPORT") (codes "report") ∷ [])
     ∷ []
 
 -- those after them

@@ -80,6 +80,9 @@ default_hold = 1
 abbrev pub default_states : ℕ
 default_states = 100000
 
+abbrev pub default_workers : ℕ
+default_workers = 1
+
 -- the words are those of a search
 pub record AreSearchWords (rows : List Row) (words : SearchWords) : Type 0 where
   pub cart : IsWord rows (codes "CART") words.cart.now
@@ -90,6 +93,8 @@ pub record AreSearchWords (rows : List Row) (words : SearchWords) : Type 0 where
   pub names : IsOptionalWord rows (codes "NAMES") words.names
   pub hold : IsNumberOr rows (codes "N") most_inputs default_hold words.hold
   pub states : IsNumberOr rows (codes "STATES") most_number default_states words.states
+  pub workers : IsNumberOr rows (codes "WORKERS") most_workers default_workers words.workers
+  pub report : IsOptionalWord rows (codes "REPORT") words.report
 
 -- the words name what is started from: nothing, a cartridge, or a movie
 abbrev pub IsStart : List Row → Start → Type 0

@@ -79,10 +79,12 @@ CHOICES has a frame in each line, as '..D.F ..... .....'. Without it the choices
 stick's nine directions, and the same with fire. NAMES has a name and an address in each line, as
 'x 85'. With --hold a choice is held for N frames, and FRAMES is a multiple of N.
 Standard output is a script for 'tas edit' that writes the best sequence into the movie: of those
-that are as good the first one, in the order of the choices. Standard error has the verdict, a line
-'best of all N sequences'. Where no sequence does it, the line begins with 'none', and where K
-choices reach more than STATES different states, with 'stopped: more than STATES states in layer
-K'. Neither writes a script. --most with a greater number keeps more states, in more memory.
+that are as good the first one, in the order of the choices. Standard error has a line for each
+number of choices as it is searched, and then the verdict, a line 'best of all N sequences'; so has
+the new file REPORT. Where no sequence does it, the verdict begins with 'none', and where K choices
+reach more than STATES different states, with 'stopped: more than STATES states in layer K'. Neither
+writes a script. --most with a greater number keeps more states, in more memory. WORKERS threads
+share the work; the answer is the same for each number of them.
 
 Examples:
   examples/cart joystick > joystick.bin

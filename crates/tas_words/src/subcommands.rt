@@ -376,6 +376,23 @@ static NEXT_SUBCOMMANDS: [Subcommand; 3] = [
                     most: MAX_STATES,
                 },
             },
+            Word {
+                name: "WORKERS",
+                help: "Threads that play the states of a layer, 1 to 16: 1 if not given",
+                kind: WordKind::NumberFlag {
+                    flag: "workers",
+                    least: 1,
+                    most: MAX_WORKERS,
+                },
+            },
+            Word {
+                name: "REPORT",
+                help: "The new file for a line for each layer and the verdict",
+                kind: WordKind::Flag {
+                    flag: "report",
+                    other: "GOAL",
+                },
+            },
         ],
     },
 ];

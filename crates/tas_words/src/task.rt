@@ -36,6 +36,9 @@ pub const DEFAULT_HOLD: u32 = 1;
 /// The greatest number of a line of a journal that can be named.
 pub const MAX_LINE: u32 = u32::MAX;
 
+/// The default of WORKERS of a search.
+pub const DEFAULT_WORKERS: u32 = 1;
+
 /// The names of a movie's two files.
 #[derive(Clone, Copy)]
 pub struct MovieFiles<'a> {
@@ -64,6 +67,10 @@ pub struct SearchWords<'a> {
     pub hold: usize,
     /// How many states of a layer are kept at most, 1 to [`MAX_STATES`].
     pub states: usize,
+    /// How many workers play a layer, 1 to [`MAX_WORKERS`].
+    pub workers: usize,
+    /// The name of the new file that the report goes to, beside standard error; none if not given.
+    pub report: Option<&'a str>,
 }
 
 /// The words of a recovery.

@@ -11,8 +11,8 @@ ghost use Rattle.tas_words.specs.CommandLine.{HasWordsOf, IsAsked, IsCommandLine
 
 use crate::command_line::command_line;
 use crate::{
-    DEFAULT_EVERY, DEFAULT_HOLD, DEFAULT_STATES, MAX_EVERY, MAX_FRAME_NUMBER, MAX_FRAMES,
-    MAX_INSTRUCTIONS, MAX_LINE, MAX_STATES, MAX_WORKERS, MovieFiles, Order, Pair, Pairs,
+    DEFAULT_EVERY, DEFAULT_HOLD, DEFAULT_STATES, DEFAULT_WORKERS, MAX_EVERY, MAX_FRAME_NUMBER,
+    MAX_FRAMES, MAX_INSTRUCTIONS, MAX_LINE, MAX_STATES, MAX_WORKERS, MovieFiles, Order, Pair, Pairs,
     RecoveryWords, SearchWords, Start, Task,
 };
 use clap::error::ErrorKind;
@@ -111,6 +111,8 @@ fn search_task<'a>(matches: &ArgMatches<'a>) -> Option<Task<'a>>
         names: word_of(matches, "NAMES"),
         hold: number_or(matches, "N", MAX_FRAMES, DEFAULT_HOLD)?,
         states: number_or(matches, "STATES", MAX_STATES, DEFAULT_STATES)?,
+        workers: number_or(matches, "WORKERS", MAX_WORKERS, DEFAULT_WORKERS)?,
+        report: word_of(matches, "REPORT"),
     }))
 }
 
@@ -313,7 +315,7 @@ pub fn read_words<'a, A: Allocator>(
     // The task's files and numbers are the words of that command, by their names, as clap's own definition finds them
     // after it; a number is read in decimal digits, before which there may be a plus. What may be left out is missing
     // in the task exactly where it is in the words, as a pair of a desk's files, of which both names are there or
-    // none; then EVERY of `digest` is 600, and of `search` N is 1 and STATES 100,000.
+    // none; then EVERY of `digest` is 600, and of `search` N is 1, STATES 100,000 and WORKERS 1.
     // Refused: script_is_the_cartridges_file*, half_of_the_frame_is_asked*, film_starts_at_its_end*,
     // number_that_is_said_is_left_out*, every_is_600_whatever_is_said,
     // digest_is_of_single_frames_where_nothing_is_said*, second_movie_is_left_out*, names_file_is_the_choices_file,
