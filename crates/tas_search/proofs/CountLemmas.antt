@@ -1,10 +1,9 @@
 -- The layers of the code have the machines of the definitions, each once, and their numbers.
-use Rattle.std.proofs.Common.{◌≡◌, ℕ, zero, suc, ◌+◌, ◌-◌, ◌*◌, ◌<◌, Bool, true, false, List, [], ◌∷◌, ◌++◌, length, map, refl, sym, ap, subst, ◌∙◌, inl, inr, arith, append_assoc, add-one}
-use Rattle.std.specs.Prelude.{◌||◌, if◌then◌else◌, Option, Some, None, flat_map, filter_map, sum_by, is_some}
+use Rattle.std.proofs.Common.{◌≡◌, ℕ, zero, suc, ◌+◌, ◌-◌, ◌*◌, Bool, true, false, List, [], ◌∷◌, ◌++◌, length, map, refl, sym, ap, subst, ◌∙◌, arith, append_assoc, add-one}
+use Rattle.std.specs.Prelude.{◌||◌, if◌then◌else◌, Option, Some, None, flat_map, filter_map, sum_by}
 use Rattle.std.specs.List.{list_any, range_with_len, cons_option}
 use Rattle.std.proofs.lemmas.List.Elements.{filter_map-append}
 use Rattle.std.proofs.lemmas.List.Sums.{sum_by-cons}
-use Rattle.std.proofs.lemmas.Bool.{cases_eq}
 use Rattle.std.proofs.lemmas.List.{map-append, length-map, append-nil}
 use Rattle.std.proofs.lemmas.List.Folds.{list_any-append}
 use Rattle.vcs_cpu.specs.declared.halt.Halt.{Halt}
@@ -13,8 +12,8 @@ use Rattle.vcs_machine.specs.Machine.{Machine, unless_halted}
 use Rattle.tas_search.specs.declared.arrival.Arrival.{Arrival}
 use Rattle.tas_search.specs.declared.arrival.Step.{Step}
 use Rattle.tas_search.specs.Space.{SpaceContent, after_choice, reached_from, reached}
-use Rattle.tas_search.specs.LayerLines.{sequences, all_reached, with_machine, with_machines, layer, going_on, tried, state_count, merged_count, played_count, line_of, layer_line}
-use Rattle.tas_search.specs.Inside.Layers.{Reached, with_reached, with_all, next_reached, next_from, next_of, grown_from, grown, layers_from, root, layer_of}
+use Rattle.tas_search.specs.LayerLines.{sequences, all_reached, with_machine, with_machines, layer, going_on, tried, state_count, merged_count, line_of, layer_line}
+use Rattle.tas_search.specs.Inside.Layers.{Reached, with_reached, with_all, next_from, next_of, grown_from, grown, layers_from, root, layer_of}
 use Rattle.tas_search.specs.Inside.Arrivals.{with_path, tried_of, IsFrontier}
 use Rattle.tas_search.specs.declared.counting.LayerCounts.{LayerCounts}
 use Rattle.tas_search.specs.Inside.Counts.{AreCounts}

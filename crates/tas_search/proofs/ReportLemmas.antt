@@ -1,18 +1,16 @@
 -- What a search has reported, layer by layer.
-use Rattle.std.proofs.Common.{◌≡◌, ℕ, zero, suc, ◌+◌, ◌<◌, ◌≤◌, List, [], ◌∷◌, ◌++◌, length, refl, sym, ap, subst, ◌∙◌, inl, inr, arith, add-one}
+use Rattle.std.proofs.Common.{◌≡◌, ℕ, zero, suc, ◌+◌, ◌<◌, ◌≤◌, List, [], length, refl, sym, ap, subst, ◌∙◌, inl, inr, arith}
 use Rattle.std.specs.Prelude.{slice_index_or, Bool, true, false}
 use Rattle.std.proofs.lemmas.Bool.{cases_eq}
 use Rattle.std.proofs.lemmas.List.{length_push}
-use Rattle.tas_search.specs.declared.arrival.Arrival.{Arrival}
 use Rattle.tas_search.specs.declared.arrival.Step.{Step}
 use Rattle.tas_search.specs.Space.{SpaceContent}
-use Rattle.tas_search.specs.Outcome.{Outcome, best, nothing, stopped}
+use Rattle.tas_search.specs.Outcome.{best, nothing, stopped}
 use Rattle.tas_search.specs.LayerLines.{state_count, layer_line, layer_lines}
 use Rattle.tas_search.specs.Logs.{LogBytes, Logged, LoggedPart}
 use Rattle.tas_search.specs.Reported.{IsReported, StopsReporting}
-use Rattle.tas_search.specs.Inside.Arrivals.{no_step, path, IsFrontier}
+use Rattle.tas_search.specs.Inside.Arrivals.{no_step, path}
 use Rattle.tas_search.proofs.LogLemmas.{nothing_logged, logged_more, part_none, part_whole, part_more}
-use Rattle.tas_search.proofs.CountLemmas.{frontier_states}
 
 pub path_length : (parents : List Step) (d : ℕ) (step : Step) → length (path parents d step) ≡ d
 path_length parents zero step = refl

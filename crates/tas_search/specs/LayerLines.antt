@@ -1,5 +1,5 @@
 -- What a search reports of its layers: a line for each number of choices.
-use Rattle.std.specs.Prelude.{ℕ, zero, suc, ◌-◌, ◌*◌, min, Bool, List, [], ◌∷◌, ◌++◌, length, map, flat_map, filter_map, sum_by, codes, decimal, slice_index_or, if◌then◌else◌}
+use Rattle.std.specs.Prelude.{ℕ, zero, suc, ◌-◌, ◌*◌, min, List, [], ◌∷◌, ◌++◌, length, map, flat_map, filter_map, sum_by, codes, decimal, slice_index_or, if◌then◌else◌}
 use Rattle.std.specs.List.{list_any, range_with_len}
 use Rattle.vcs_inputs.specs.Input.{no_input}
 use Rattle.vcs_machine.specs.Equality.{are_same_machines}

@@ -1,5 +1,5 @@
 -- A space in parts: a part for each first choice. A search of a part is one that starts after that choice.
-use Rattle.std.specs.Prelude.{◌≡◌, ℕ, ◌<◌, ◌≤◌, ◌⊎◌, Bool, false, List, ◌∷◌, length, None}
+use Rattle.std.specs.Prelude.{◌≡◌, ℕ, ◌<◌, ◌≤◌, ◌⊎◌, Bool, false, List, length, None}
 use Rattle.vcs_machine.specs.Machine.{Machine}
 use Rattle.tas_search.specs.Space.{SpaceContent, AreChoices, after_choice}
 use Rattle.tas_search.specs.Best.{IsShortest, Meets}

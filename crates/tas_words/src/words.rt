@@ -12,8 +12,8 @@ ghost use Rattle.tas_words.specs.CommandLine.{HasWordsOf, IsAsked, IsCommandLine
 use crate::command_line::command_line;
 use crate::{
     DEFAULT_EVERY, DEFAULT_HOLD, DEFAULT_STATES, DEFAULT_WORKERS, MAX_EVERY, MAX_FRAME_NUMBER,
-    MAX_FRAMES, MAX_INSTRUCTIONS, MAX_LINE, MAX_STATES, MAX_WORKERS, MovieFiles, Order, Pair, Pairs,
-    RecoveryWords, SearchWords, Start, Task,
+    MAX_FRAMES, MAX_INSTRUCTIONS, MAX_LINE, MAX_STATES, MAX_WORKERS, MovieFiles, Order, Pair,
+    Pairs, RecoveryWords, SearchWords, Start, Task,
 };
 use clap::error::ErrorKind;
 use clap::{ArgMatches, Command, Error};

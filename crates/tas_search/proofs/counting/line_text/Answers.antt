@@ -1,5 +1,5 @@
 use Rattle.std.proofs.Common.{List, ℕ, ◌++◌, ap, ◌∙◌}
-use Rattle.tas_search.specs.LayerLines.{line_back, line_front}
+use Rattle.tas_search.specs.LayerLines.{line_front}
 use Rattle.tas_search.proofs.counting.line_text.Goals as goal
 
 pub returns : goal.returns

@@ -1,5 +1,4 @@
-use Rattle.std.proofs.Common.{◌≡◌, ◌+◌, length, ap, ◌∙◌, arith}
-use Rattle.tas_search.specs.Inside.Arrivals.{IsFrontier}
+use Rattle.std.proofs.Common.{◌+◌, arith}
 use Rattle.tas_search.proofs.ArrivalLemmas.{moved_frontier}
 use Rattle.tas_search.proofs.CountLemmas.{counts_are}
 use Rattle.tas_search.proofs.LimitLemmas.{frontier_fits}

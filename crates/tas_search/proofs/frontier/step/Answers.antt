@@ -1,4 +1,4 @@
-use Rattle.std.proofs.Common.{◌≡◌, ◌+◌, List, ℕ, subst, ◌∙◌}
+use Rattle.std.proofs.Common.{◌+◌, subst, ◌∙◌}
 use Rattle.tas_search.specs.LayerLines.{layer_line}
 use Rattle.tas_search.specs.Logs.{LoggedPart, log_bytes}
 use Rattle.tas_search.proofs.CountLemmas.{line_is}

@@ -1,7 +1,4 @@
-use Rattle.std.proofs.Common.{◌≡◌, ◌+◌, ◌-◌, ◌≤◌, length, take, drop, refl, sym, ap, subst, ◌∙◌, arith}
-use Rattle.std.specs.Prelude.{Bool}
-use Rattle.std.proofs.lemmas.List.{take_all}
-use Rattle.tas_search.specs.Inside.Arrivals.{GrowsBy, grown_arrivals, tried_of}
+use Rattle.std.proofs.Common.{◌+◌, refl, arith}
 use Rattle.tas_search.proofs.GrowLemmas.{blocks_grow, blocks_over}
 use Rattle.tas_search.proofs.growing.grow.Goals as goal
 

@@ -1,4 +1,3 @@
-use Rattle.std.proofs.Common.{◌≡◌, ap, sym, subst, List}
 use Rattle.tas_search.proofs.GrowLemmas.{block_grows}
 use Rattle.tas_search.proofs.growing.grow_block.Goals as goal
 

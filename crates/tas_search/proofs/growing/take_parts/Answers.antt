@@ -1,5 +1,4 @@
-use Rattle.std.proofs.Common.{◌≡◌, ◌+◌, arith}
-use Rattle.std.proofs.lemmas.Grind.{common_steps}
+use Rattle.std.proofs.Common.{◌+◌, arith}
 use Rattle.tas_search.proofs.GrowLemmas.{all_parts, first_parts, no_parts, one_part_counts}
 use Rattle.tas_search.proofs.growing.take_parts.Goals as goal
 

@@ -1,4 +1,3 @@
-use Rattle.std.proofs.lemmas.Grind.{common_steps}
 use Rattle.std.proofs.Common.{◌≡◌, ℕ, ◌+◌, ◌*◌, ◌≤◌, length, refl, Err, ap, subst, ◌∙◌, arith}
 use Rattle.tas_movie.specs.Content.{most_inputs}
 use Rattle.tas_search.specs.Space.{SpaceContent}

@@ -1,4 +1,4 @@
-use Rattle.std.proofs.Common.{◌≡◌, ◌*◌, ◌^◌, ◌≤◌, sym, arith}
+use Rattle.std.proofs.Common.{◌^◌, arith}
 use Rattle.tas_search.proofs.PowerLemmas.{factor_high, first_power}
 use Rattle.tas_search.proofs.power.greatest_power.Goals as goal
 

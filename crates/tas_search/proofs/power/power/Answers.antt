@@ -1,4 +1,4 @@
-use Rattle.std.proofs.Common.{◌≡◌, List, ℕ, [], ◌∷◌, ◌++◌, ap, ◌∙◌}
+use Rattle.std.proofs.Common.{List, ℕ, [], ◌∷◌, ◌++◌, ap, ◌∙◌}
 use Rattle.tas_search.proofs.PowerLemmas.{one_low, own_value, power_whole}
 use Rattle.tas_search.proofs.power.power.Goals as goal
 

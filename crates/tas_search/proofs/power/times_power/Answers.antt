@@ -1,4 +1,3 @@
-use Rattle.std.proofs.Common.{◌*◌, ◌^◌}
 use Rattle.tas_search.specs.Inside.Digits.{low_value}
 use Rattle.tas_search.proofs.PowerLemmas.{not_raised, own_value, raised}
 use Rattle.tas_search.proofs.power.times_power.Goals as goal

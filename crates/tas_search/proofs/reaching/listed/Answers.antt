@@ -1,4 +1,3 @@
-use Rattle.std.proofs.lemmas.Grind.{common_steps}
 use Rattle.std.proofs.Common.{arith}
 use Rattle.tas_search.proofs.GrowLemmas.{lists_more}
 use Rattle.tas_search.proofs.reaching.listed.Goals as goal

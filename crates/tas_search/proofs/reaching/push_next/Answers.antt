@@ -1,5 +1,4 @@
-use Rattle.std.proofs.lemmas.Grind.{common_steps}
-use Rattle.std.proofs.Common.{◌≡◌, false, true, length, ◌++◌, ◌∷◌, [], List, ◌∙◌, sym, ap, arith}
+use Rattle.std.proofs.Common.{◌≡◌, false, length, ◌++◌, ◌∷◌, [], ◌∙◌, ap, arith}
 use Rattle.std.specs.Prelude.{is_some, Bool, min, if◌then◌else◌}
 use Rattle.tas_search.specs.declared.arrival.Arrival.{Arrival}
 use Rattle.tas_search.proofs.GrowLemmas.{all_listed, alike_listed, choice_listed, first_listed, tries_are}
