@@ -17,7 +17,7 @@ use Rattle.tas_words.specs.declared.task.Task.{Task}
 use Rattle.tas_words.specs.Invocations.{AreGiven, IsInvocation, IsNoTask}
 use Rattle.tas_program.specs.Program.{IsAskedBy, end_status, OneFileRun, TwoFilesRun, FilesRun, EndsOver, OverOne, OverTwo, IsRunOfFiles, IsSaveRun, IsTaskRun, RunsAfter, TaskEnds}
 use Rattle.tas_program.specs.declared.status.TaskFault.{TaskFault}
-use Rattle.tas_program.specs.declared.status.TaskFault.TheVariants.{Word, Tool, Search as NotSearched, Recover as NotRecovered, Report, Save as NotSaved}
+use Rattle.tas_program.specs.declared.status.TaskFault.TheVariants.{Word, Tool, Search as NotSearched, Recover as NotRecovered, Report, NoReport, Save as NotSaved}
 use Rattle.tas_program.specs.declared.file_words.Permit.{Permit}
 use Rattle.tas_program.specs.declared.file_words.WordFault.{WordFault}
 use Rattle.tas_program.specs.FileWords.{WordsEnd, first_fault}
@@ -46,6 +46,7 @@ task_ends files chosen old new (Err (Tool fault)) ran = (Tool fault, tt, ran)
 task_ends files chosen old new (Err (NotSearched e)) ran = (NotSearched e, tt, ran)
 task_ends files chosen old new (Err (NotRecovered fault)) ran = (NotRecovered fault, tt, ran)
 task_ends files chosen old new (Err (Report fault)) ran = (Report fault, tt, ran)
+task_ends files chosen old new (Err NoReport) ran = (NoReport, tt, ran)
 task_ends files chosen old new (Err (NotSaved fault)) (seen, are, ran) = absurd (go (first_fault seen) ran)
   where
     go : (word : Option WordFault) → RunsAfter files chosen word old new (Err (NotSaved fault)) → ⊥

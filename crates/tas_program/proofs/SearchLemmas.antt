@@ -1,16 +1,23 @@
 -- Searches and recoveries, and the ends of tasks that are one.
-use Rattle.std.proofs.Common.{◌≡◌, ◌⊎◌, ℕ, List, Option, None, Some, Result, Ok, Err, inl, inr, refl, sym, ap, subst}
+use Rattle.std.proofs.Common.{◌≡◌, ◌⊎◌, ℕ, List, Option, None, Some, Result, Ok, Err, inl, inr, length, refl, sym, ap, subst, arith}
+use Rattle.std.specs.Borrow.{Bor}
+use Rattle.std.specs.Io.KnownBytes.{Appends}
+use Rattle.std.proofs.KnownBytes.{Appends-nil}
+use Rattle.std.proofs.lemmas.List.{take_all}
+use Rattle.tas_engines.specs.declared.fault.RunFault.{RunFault}
+use Rattle.tas_engines.specs.Output.{StopsWriting}
 use Rattle.tas_engines.specs.declared.fault.ReadFault.TheVariants.{Failed, Memory}
 use Rattle.tas_engines.specs.declared.fault.ToolFault.{ToolFault}
 use Rattle.tas_engines.specs.declared.fault.ToolFault.TheVariants.{Read}
 use Rattle.tas_search.specs.declared.search_error.SearchError.{SearchError}
 use Rattle.tas_search.specs.declared.search_request.Search.{Search as Asked}
+use Rattle.tas_search.specs.Logs.{LogBytes, Logged, LoggedPart, log_bytes}
 use Rattle.tas_search.specs.SearchRun.{IsSearchRunOn}
 use Rattle.tas_words.specs.declared.task.SearchWords.{SearchWords}
 use Rattle.tas_words.specs.declared.task.Task.{Task}
 use Rattle.tas_program.specs.declared.saving.SaveFault.{SaveFault}
 use Rattle.tas_program.specs.declared.status.TaskFault.{TaskFault}
-use Rattle.tas_program.specs.declared.status.TaskFault.TheVariants.{Tool, Save as NotSaved}
+use Rattle.tas_program.specs.declared.status.TaskFault.TheVariants.{Tool, Report, NoReport, Save as NotSaved}
 use Rattle.tas_program.specs.declared.searching.Reported.{Reported}
 use Rattle.tas_program.specs.declared.searching.Reported.TheVariants as reported
 use Rattle.tas_journal.specs.declared.fault.RecoveryFault.{RecoveryFault}
@@ -22,25 +29,42 @@ use Rattle.std.specs.Global.{Global as GlobalType}
 use Rattle.tas_program.specs.Reporting.{ReportedEnds, reported_of}
 use Rattle.tas_program.specs.Files.{FileBytes}
 use Rattle.tas_program.specs.Program.{DoesTask, EngineEnds, tool_end}
-use Rattle.tas_program.specs.Searching.{Reports, Searches, SearchesOver, bytes_end, search_end, search_files}
+use Rattle.tas_program.specs.Saving.{FileSteps, unknown_steps}
+use Rattle.tas_program.specs.Searching.{IsReportFile, Reports, ReportsVerdict, RunsSearch, Searches, SearchesOver, bytes_end, search_end, search_files}
 use Rattle.tas_program.specs.Streams.{StreamBytes}
 
--- the same end of a run, its report as bytes
-pub in_bytes : {Z : Type 0} (said : Z → List ℕ) (asked : Asked) (inputs inputs' : List (Option (List ℕ))) (output output' : Option (List ℕ)) (end : Result Z SearchError) → IsSearchRunOn said asked inputs inputs' output output' end
-    → IsSearchRunOn (λ report. report) asked inputs inputs' output output' (bytes_end said end)
-in_bytes said asked inputs inputs' output output' end (inl (fault, is, stops, keeps)) = inl (fault, ap (bytes_end said) is, stops, keeps)
-in_bytes said asked inputs inputs' output output' (Ok report) (inr (read, whole, ends)) = inr (read, whole, ends)
-in_bytes said asked inputs inputs' output output' (Err e) (inr (read, whole, ends)) = inr (read, whole, ends)
+-- the same end of a run, its verdict as bytes
+pub in_bytes : {Z : Type 0} (said : Z → List ℕ) (asked : Asked) (inputs inputs' : List (Option (List ℕ))) (output output' : Option (List ℕ)) (logs logs' : LogBytes) (end : Result Z SearchError)
+    → IsSearchRunOn said asked inputs inputs' output output' logs logs' end → IsSearchRunOn (λ verdict. verdict) asked inputs inputs' output output' logs logs' (bytes_end said end)
+in_bytes said asked inputs inputs' output output' logs logs' end (inl (fault, is, stops, keeps, same)) = inl (fault, ap (bytes_end said) is, stops, keeps, same)
+in_bytes said asked inputs inputs' output output' logs logs' (Ok verdict) (inr (read, whole, ends)) = inr (read, whole, ends)
+in_bytes said asked inputs inputs' output output' logs logs' (Err e) (inr (read, whole, ends)) = inr (read, whole, ends)
 
 -- files that can't be opened
-pub not_searched : (files : FileBytes) (words : SearchWords) (old : StreamBytes) (fault : ToolFault) → (fault ≡ Read Failed) ⊎ (fault ≡ Read Memory) → Searches files words old old (Err (Tool fault))
-not_searched files words old fault (inl is) = inl (inl (ap (λ (f : ToolFault). Err (Tool f)) is), refl)
-not_searched files words old fault (inr is) = inl (inr (ap (λ (f : ToolFault). Err (Tool f)) is), refl)
+pub not_searched : (files : FileBytes) (words : SearchWords) (old : StreamBytes) (logs : LogBytes) (fault : ToolFault) → (fault ≡ Read Failed) ⊎ (fault ≡ Read Memory) → Searches files words old old logs logs (Err (Tool fault))
+not_searched files words old logs fault (inl is) = inl (inl (ap (λ (f : ToolFault). Err (Tool f)) is), refl, refl)
+not_searched files words old logs fault (inr is) = inl (inr (ap (λ (f : ToolFault). Err (Tool f)) is), refl, refl)
 
 -- a search ran over files that were opened
-pub searched : (files : FileBytes) (words : SearchWords) (taken left : List (Option (List ℕ))) (old new : StreamBytes) (end : Result (List ℕ) TaskFault) → taken ≡ search_files files words
-    → SearchesOver words taken left old.input new.input old.output new.output end → Searches files words old new end
-searched files words taken left old new end is ran = inr (left, subst (λ (l : List (Option (List ℕ))). SearchesOver words l left old.input new.input old.output new.output end) is ran)
+pub searched : (files : FileBytes) (words : SearchWords) (taken left : List (Option (List ℕ))) (old new : StreamBytes) (logs logs' : LogBytes) (end : Result (List ℕ) TaskFault) → taken ≡ search_files files words
+    → SearchesOver words taken left old new logs logs' end → Searches files words old new logs logs' end
+searched files words taken left old new logs logs' end is ran = inr (left, subst (λ (l : List (Option (List ℕ))). SearchesOver words l left old new logs logs' end) is ran)
+
+-- nothing need be known of the steps by which the report's file was made
+pub any_steps : (steps : FileSteps) (files : FileBytes) (words : SearchWords) (old new : StreamBytes) (told told' : Option (List ℕ)) (end : Result (Unit {0}) TaskFault) → RunsSearch steps files words old new told told' end
+    → RunsSearch unknown_steps files words old new told told' end
+any_steps steps files words old new told told' end (inl none) = inl none
+any_steps steps files words old new told told' end (inr (held, held', made, ends)) = inr (held, held', unknown words.report, ends)
+  where
+    unknown : (name : Option (Bor (List ℕ))) → IsReportFile unknown_steps name held
+    unknown None = tt
+    unknown (Some name) = tt
+
+-- the same of any task that reports
+pub any_reported : (steps : FileSteps) (files : FileBytes) (words : Reported) (old new : StreamBytes) (told told' : Option (List ℕ)) (end : Result (Unit {0}) TaskFault) → ReportedEnds steps files words old new told told' end
+    → ReportedEnds unknown_steps files words old new told told' end
+any_reported steps files (reported.Search words) old new told told' end ends = any_steps steps files words old new told told' end ends
+any_reported steps files (reported.Recovery words) old new told told' end ends = ends
 
 -- a recovery ran over a cartridge that is open, up to this line
 pub recovered_over : (until : Option ℕ) (line : ℕ) (cart cart' input input' output output' : Option (List ℕ)) (done : Result Recovery RecoveryFault) (end : Result (List ℕ) TaskFault) → line ≡ first_left_out until → IsRecoveryEnd done end
@@ -54,7 +78,7 @@ recovered files words cart left old new end is ran = inr (left, subst (λ (c : O
 
 -- the engine of a task that reports, and that of one that doesn't
 pub ends_reported : (files : FileBytes) (chosen : Task) (words : Reported) (told told' : Option (List ℕ)) (old new : StreamBytes) (end : Result (Unit {0}) TaskFault) → reported_of chosen ≡ Some words
-    → ReportedEnds files words old new told told' end → EngineEnds files (reported_of chosen) chosen old new end
+    → ReportedEnds unknown_steps files words old new told told' end → EngineEnds files (reported_of chosen) chosen old new end
 ends_reported files chosen words told told' old new end is ends = subst (λ (o : Option Reported). EngineEnds files o chosen old new end) (sym is) (told, told', ends)
 
 pub ends_other : (files : FileBytes) (chosen : Task) (old new : StreamBytes) (done : Result (Unit {0}) ToolFault) (end : Result (Unit {0}) TaskFault) → reported_of chosen ≡ None → end ≡ tool_end done
@@ -67,12 +91,20 @@ not_reported (Ok report) fault told told' none (inl (is, out)) = cc
 not_reported (Ok report) fault told told' none (inr (write, is, out)) = cc
 not_reported (Err other) fault told told' none (is, keeps) = none (let same : other ≡ NotSaved fault = cc in ap Err same)
 
+no_verdict_fault : (done : Result (List ℕ) TaskFault) (fault : SaveFault) (logs logs' : LogBytes) → (done ≡ Err (NotSaved fault) → ⊥) → ReportsVerdict done logs logs' (Err (NotSaved fault)) → ⊥
+no_verdict_fault (Ok verdict) fault logs logs' none (inl (is, out)) = cc
+no_verdict_fault (Ok verdict) fault logs logs' none (inr broken) = broken_end broken.is
+  where
+    broken_end : ◌≡◌ {A = Result (Unit {0}) TaskFault} (Err (NotSaved fault)) (Err (Report broken.fault)) → ⊥
+    broken_end e = cc
+no_verdict_fault (Err other) fault logs logs' none (is, same) = none (let same_fault : other ≡ NotSaved fault = cc in ap Err same_fault)
+
 -- no search and no recovery ends with one
-no_search_fault : (files : FileBytes) (words : SearchWords) (old new : StreamBytes) (done : Result (List ℕ) TaskFault) (fault : SaveFault) → Searches files words old new done → done ≡ Err (NotSaved fault) → ⊥
-no_search_fault files words old new done fault (inl (inl failed, same)) is = cc
-no_search_fault files words old new done fault (inl (inr refused, same)) is = cc
-no_search_fault files words old new done fault (inr (left, (asked, by, Ok report, ended, ran))) is = cc
-no_search_fault files words old new done fault (inr (left, (asked, by, Err e, ended, ran))) is = cc
+no_search_fault : (files : FileBytes) (words : SearchWords) (old new : StreamBytes) (logs logs' : LogBytes) (done : Result (List ℕ) TaskFault) (fault : SaveFault) → Searches files words old new logs logs' done → done ≡ Err (NotSaved fault) → ⊥
+no_search_fault files words old new logs logs' done fault (inl (inl failed, same, kept)) is = cc
+no_search_fault files words old new logs logs' done fault (inl (inr refused, same, kept)) is = cc
+no_search_fault files words old new logs logs' done fault (inr (left, (asked, by, Ok verdict, ended, ran))) is = cc
+no_search_fault files words old new logs logs' done fault (inr (left, (asked, by, Err e, ended, ran))) is = cc
 
 no_recovery_fault : (files : FileBytes) (words : RecoveryWords) (old new : StreamBytes) (done : Result (List ℕ) TaskFault) (fault : SaveFault) → Recovers files words old new done → done ≡ Err (NotSaved fault) → ⊥
 no_recovery_fault files words old new done fault (inl (failed, same)) is = cc
@@ -84,7 +116,28 @@ no_recovery_fault files words old new done fault (inr (left, (Err e, ended, ran)
 pub no_save_fault : (files : FileBytes) (asked : Option Reported) (chosen : Task) (old new : StreamBytes) (fault : SaveFault) → EngineEnds files asked chosen old new (Err (NotSaved fault)) → ⊥
 no_save_fault files None chosen old new fault (Ok u, is, does) = cc
 no_save_fault files None chosen old new fault (Err other, is, does) = cc
-no_save_fault files (Some (reported.Search words)) chosen old new fault (told, told', ends) =
-    not_reported ends.done fault told told' (no_search_fault files words old new ends.done fault ends.searches) ends.reports
+no_save_fault files (Some (reported.Search words)) chosen old new fault (told, told', inl none) = other_end none.is
+  where
+    other_end : ◌≡◌ {A = Result (Unit {0}) TaskFault} (Err (NotSaved fault)) (Err NoReport) → ⊥
+    other_end e = cc
+no_save_fault files (Some (reported.Search words)) chosen old new fault (told, told', inr (held, held', made, ends)) =
+    no_verdict_fault ends.done fault ends.mid (log_bytes told' held') (no_search_fault files words old new (log_bytes told held) ends.mid ends.done fault ends.searches) ends.reports
 no_save_fault files (Some (reported.Recovery words)) chosen old new fault (told, told', ends) =
     not_reported ends.done fault told told' (no_recovery_fault files words old new ends.done fault ends.recovers) ends.reports
+
+-- ---- the verdict
+
+pub verdict_logged : (told told' held held' : Option (List ℕ)) (verdict : List ℕ) → Appends held held' verdict → Appends told told' verdict → Logged (log_bytes told held) (log_bytes told' held') verdict
+verdict_logged told told' held held' verdict a b = record { errors = b; report = a }
+
+pub verdict_cut : (told held held' : Option (List ℕ)) (verdict : List ℕ) (fault : RunFault) → StopsWriting held held' verdict fault → LoggedPart (log_bytes told held) (log_bytes told held') verdict
+verdict_cut told held held' verdict fault stops = record { shown = 0; kept = stops.written; errors = Appends-nil told; report = stops.cut.front }
+
+pub verdict_cut_later : (told told' held held' : Option (List ℕ)) (verdict : List ℕ) (fault : RunFault) → Appends held held' verdict → StopsWriting told told' verdict fault
+    → LoggedPart (log_bytes told held) (log_bytes told' held') verdict
+verdict_cut_later told told' held held' verdict fault kept stops = record {
+  shown = stops.written;
+  kept = length verdict;
+  errors = stops.cut.front;
+  report = subst (Appends held held') (sym (take_all (length verdict) verdict (omega arith))) kept;
+}

@@ -47,14 +47,14 @@ use Rattle.tas_words.specs.declared.task.Start.TheVariants.{Blank, Cart, Movie}
 use Rattle.clap.specs.Walk.{Text}
 use Rattle.tas_words.specs.Invocations.{AreGiven, IsInvocation}
 use Rattle.tas_program.specs.declared.status.TaskFault.{TaskFault}
-use Rattle.tas_program.specs.declared.status.TaskFault.TheVariants.{Word, Tool, Search as NotSearched, Recover as NotRecovered, Report, Save as NotSaved}
+use Rattle.tas_program.specs.declared.status.TaskFault.TheVariants.{Word, Tool, Search as NotSearched, Recover as NotRecovered, Report, NoReport, Save as NotSaved}
 use Rattle.tas_program.specs.declared.file_words.WordFault.{WordFault}
 use Rattle.tas_program.specs.declared.file_words.SeenWord.{SeenWord}
 use Rattle.tas_program.specs.declared.saving.SaveFault.{SaveFault}
 use Rattle.tas_program.specs.declared.folder.OrdinaryFile.{OrdinaryFile}
 use Rattle.tas_program.specs.FileWords.{AreSeen, IsSeen, fault_or, first_fault}
 use Rattle.tas_program.specs.OutputWords.{AreInputsSeen, output_fault}
-use Rattle.tas_program.specs.Saving.{Files, FileSteps, SaveEnds}
+use Rattle.tas_program.specs.Saving.{Files, FileSteps, SaveEnds, unknown_steps}
 use Rattle.tas_program.specs.Files.{FileBytes}
 use Rattle.tas_program.specs.Reporting.{ReportedEnds, reported_of}
 use Rattle.tas_program.specs.declared.searching.Reported.{Reported}
@@ -78,6 +78,7 @@ end_status (Err (Tool fault)) = Fault
 end_status (Err (NotSearched e)) = Fault
 end_status (Err (NotRecovered fault)) = Fault
 end_status (Err (Report fault)) = Fault
+end_status (Err NoReport) = Fault
 end_status (Err (NotSaved fault)) = Fault
 
 -- what runs over files and the streams: what the files have and what is left of them, and the bytes of the input and of the output, before and after
@@ -155,7 +156,7 @@ tool_end (Err fault) = Err (Tool fault)
 
 -- the engine of a task was run: that of a search or a recovery, which reports to some writer, of which nothing is said here; or that of another task
 abbrev pub EngineEnds : FileBytes → Option Reported → Task → StreamBytes → StreamBytes → Result (Unit {0}) TaskFault → Type 0
-EngineEnds files (Some words) chosen old new end = (told told' : Option (List ℕ)) × ReportedEnds files words old new told told' end
+EngineEnds files (Some words) chosen old new end = (told told' : Option (List ℕ)) × ReportedEnds unknown_steps files words old new told told' end
 EngineEnds files None chosen old new end = (done : Result (Unit {0}) ToolFault) × (end ≡ tool_end done) × DoesTask files chosen old new done
 
 -- what is done after the words were looked at: where one is at fault, the task ends with that, and no stream is read or written; else its
@@ -269,6 +270,7 @@ IsEngineFault (Tool fault) = Unit {0}
 IsEngineFault (NotSearched e) = Unit {0}
 IsEngineFault (NotRecovered fault) = Unit {0}
 IsEngineFault (Report fault) = Unit {0}
+IsEngineFault NoReport = Unit {0}
 IsEngineFault _ = ⊥
 
 -- the program's end after a task: done where the task is, else a fault of its engine or of a word

@@ -7,7 +7,8 @@ use Rattle.tas_program.specs.declared.searching.Reported.TheVariants as reported
 use Rattle.tas_program.specs.declared.status.TaskFault.{TaskFault}
 use Rattle.tas_program.specs.Files.{FileBytes}
 use Rattle.tas_program.specs.Recovering.{RecoveryEnds}
-use Rattle.tas_program.specs.Searching.{SearchEnds}
+use Rattle.tas_program.specs.Saving.{FileSteps}
+use Rattle.tas_program.specs.Searching.{RunsSearch}
 use Rattle.tas_program.specs.Streams.{StreamBytes}
 
 -- the words of a task that reports
@@ -16,7 +17,8 @@ reported_of (Search words) = Some (reported.Search words)
 reported_of (Recover words) = Some (reported.Recovery words)
 reported_of chosen = None
 
--- a task that reports ends as its own definition says; standard error held some bytes before and holds some afterwards
-abbrev pub ReportedEnds : FileBytes → Reported → StreamBytes → StreamBytes → (told told' : Option (List ℕ)) → Result (Unit {0}) TaskFault → Type 0
-ReportedEnds files (reported.Search words) old new told told' end = SearchEnds files words old new told told' end
-ReportedEnds files (reported.Recovery words) old new told told' end = RecoveryEnds files words old new told told' end
+-- a task that reports ends as its own definition says, with the file of its report made as the folder states its steps; standard error held some bytes
+-- before and holds some afterwards
+abbrev pub ReportedEnds : FileSteps → FileBytes → Reported → StreamBytes → StreamBytes → (told told' : Option (List ℕ)) → Result (Unit {0}) TaskFault → Type 0
+ReportedEnds steps files (reported.Search words) old new told told' end = RunsSearch steps files words old new told told' end
+ReportedEnds steps files (reported.Recovery words) old new told told' end = RecoveryEnds files words old new told told' end

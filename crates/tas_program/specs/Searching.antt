@@ -1,5 +1,5 @@
 -- A search: the files that it reads, what it writes, and what it reports to standard error.
-use Rattle.std.specs.Prelude.{◌≡◌, ◌++◌, ◌⊎◌, ℕ, List, [], ◌∷◌, Option, Some, None, Result, Ok, Err, is_some}
+use Rattle.std.specs.Prelude.{◌≡◌, ◌++◌, ◌⊎◌, ℕ, List, [], ◌∷◌, Option, Some, None, Result, Ok, Err, is_some, true}
 use Rattle.std.specs.Borrow.{Bor}
 use Rattle.std.specs.Io.KnownBytes.{Appends, Keeps}
 use Rattle.tas_engines.specs.declared.fault.RunFault.{RunFault}
@@ -8,11 +8,13 @@ use Rattle.tas_engines.specs.declared.fault.ReadFault.TheVariants.{Failed, Memor
 use Rattle.tas_engines.specs.Output.{StopsWriting}
 use Rattle.tas_search.specs.declared.search_error.SearchError.{SearchError}
 use Rattle.tas_search.specs.declared.search_request.Search.{Search as Asked}
+use Rattle.tas_search.specs.Logs.{LogBytes, Logged, LoggedPart, log_bytes}
 use Rattle.tas_search.specs.SearchRun.{IsSearchRun}
 use Rattle.tas_words.specs.declared.task.SearchWords.{SearchWords}
 use Rattle.tas_program.specs.declared.status.TaskFault.{TaskFault}
-use Rattle.tas_program.specs.declared.status.TaskFault.TheVariants.{Tool, Search as NotSearched, Report}
+use Rattle.tas_program.specs.declared.status.TaskFault.TheVariants.{Tool, Search as NotSearched, Report, NoReport}
 use Rattle.tas_program.specs.Files.{FileBytes}
+use Rattle.tas_program.specs.Saving.{FileSteps}
 use Rattle.tas_program.specs.Streams.{StreamBytes}
 
 -- the bytes of a file that may be named
@@ -30,6 +32,7 @@ pub record IsAskedFor (words : SearchWords) (asked : Asked) : Type 0 where
   pub frames_is : asked.frames ≡ words.frames
   pub hold_is : asked.hold ≡ words.hold
   pub states_is : asked.states ≡ words.states
+  pub workers_is : asked.workers ≡ words.workers
   pub choices_is : asked.has_choices ≡ is_some words.choices
   pub names_is : asked.has_names ≡ is_some words.names
   pub goal_is : asked.goal.now ≡ words.goal.now
@@ -48,24 +51,55 @@ bytes_end said (Err fault) = Err fault
 abbrev pub CannotOpen : Result (List ℕ) TaskFault → Type 0
 CannotOpen end = (end ≡ Err (Tool (Read Failed))) ⊎ (end ≡ Err (Tool (Read Memory)))
 
--- a search runs over files that are open and the input, by its own definition: it writes its script to the output and returns its report, or
--- ends with a fault
-abbrev pub SearchesOver : SearchWords → (files left : List (Option (List ℕ))) → (input input' output output' : Option (List ℕ)) → Result (List ℕ) TaskFault → Type 0
-SearchesOver words files left input input' output output' end =
-    (asked : Asked) × IsAskedFor words asked × (done : Result (List ℕ) SearchError) × (end ≡ search_end done) × IsSearchRun (λ report. report) asked files left input input' output output' done
+-- a search runs over files that are open and the input, by its own definition: it reports its layers, writes its script to the output and returns its
+-- verdict, or ends with a fault
+abbrev pub SearchesOver : SearchWords → (files left : List (Option (List ℕ))) → (old new : StreamBytes) → (logs logs' : LogBytes) → Result (List ℕ) TaskFault → Type 0
+SearchesOver words files left old new logs logs' end =
+    (asked : Asked) × IsAskedFor words asked × (done : Result (List ℕ) SearchError) × (end ≡ search_end done) × IsSearchRun (λ verdict. verdict) asked files left old.input new.input old.output new.output logs logs' done
 
 -- a search ends: its files can't be opened, and no stream is read or written; or it runs over them
-abbrev pub Searches : FileBytes → SearchWords → StreamBytes → StreamBytes → Result (List ℕ) TaskFault → Type 0
-Searches files words old new end =
-    (CannotOpen end × (new ≡ old)) ⊎ ((left : List (Option (List ℕ))) × SearchesOver words (search_files files words) left old.input new.input old.output new.output end)
+abbrev pub Searches : FileBytes → SearchWords → StreamBytes → StreamBytes → (logs logs' : LogBytes) → Result (List ℕ) TaskFault → Type 0
+Searches files words old new logs logs' end =
+    (CannotOpen end × (new ≡ old) × (logs' ≡ logs)) ⊎ ((left : List (Option (List ℕ))) × SearchesOver words (search_files files words) left old new logs logs' end)
 
 -- what is reported: the report, whole; or its first bytes, where a write failed, and this is the fault; or nothing, where the engine ended with one
 abbrev pub Reports : Result (List ℕ) TaskFault → (told told' : Option (List ℕ)) → Result (Unit {0}) TaskFault → Type 0
 Reports (Ok report) told told' end = ((end ≡ Ok tt) × Appends told told' report) ⊎ ((fault : RunFault) × (end ≡ Err (Report fault)) × StopsWriting told told' report fault)
 Reports (Err fault) told told' end = (end ≡ Err fault) × Keeps told told'
 
--- a search ends, and its report is written to standard error, which held some bytes before and holds some afterwards
-pub record SearchEnds (files : FileBytes) (words : SearchWords) (old new : StreamBytes) (told told' : Option (List ℕ)) (end : Result (Unit {0}) TaskFault) : Type 0 where
+-- a write of the verdict failed: both writers have a beginning of it
+pub record BreaksOff (logs logs' : LogBytes) (verdict : List ℕ) (end : Result (Unit {0}) TaskFault) : Type 0 where
+  pub fault : RunFault
+  pub is : end ≡ Err (Report fault)
+  pub part : LoggedPart logs logs' verdict
+
+-- what a search reports at its end: the verdict, whole, to both writers; or a beginning of it, and this is the fault; or nothing, where the search
+-- ended with one
+abbrev pub ReportsVerdict : Result (List ℕ) TaskFault → (logs logs' : LogBytes) → Result (Unit {0}) TaskFault → Type 0
+ReportsVerdict (Ok verdict) logs logs' end = ((end ≡ Ok tt) × Logged logs logs' verdict) ⊎ BreaksOff logs logs' verdict end
+ReportsVerdict (Err fault) logs logs' end = (end ≡ Err fault) × (logs' ≡ logs)
+
+-- a search ends, and its report is written to two writers
+pub record SearchEnds (files : FileBytes) (words : SearchWords) (old new : StreamBytes) (logs logs' : LogBytes) (end : Result (Unit {0}) TaskFault) : Type 0 where
   pub done : Result (List ℕ) TaskFault
-  pub searches : Searches files words old new done
-  pub reports : Reports done told told' end
+  pub mid : LogBytes
+  pub searches : Searches files words old new logs mid done
+  pub reports : ReportsVerdict done mid logs' end
+
+-- where the report goes beside standard error: a new file, which the folder has made; nowhere that is known
+abbrev pub IsReportFile : FileSteps → Option (Bor (List ℕ)) → Option (List ℕ) → Type 0
+IsReportFile steps None held = Unit {0}
+IsReportFile steps (Some name) held = steps.made name.now held
+
+-- the report's file can't be made, and no stream is read or written
+pub record HasNoReport (words : SearchWords) (old new : StreamBytes) (told told' : Option (List ℕ)) (end : Result (Unit {0}) TaskFault) : Type 0 where
+  pub is : end ≡ Err NoReport
+  pub named : is_some words.report ≡ true
+  pub streams : new ≡ old
+  pub errors : told' ≡ told
+
+-- a search ends, with its report written to standard error, which held some bytes before and holds some afterwards, and to a new file if one is named
+abbrev pub RunsSearch : FileSteps → FileBytes → SearchWords → (old new : StreamBytes) → (told told' : Option (List ℕ)) → Result (Unit {0}) TaskFault → Type 0
+RunsSearch steps files words old new told told' end =
+    HasNoReport words old new told told' end
+    ⊎ ((held held' : Option (List ℕ)) × IsReportFile steps words.report held × SearchEnds files words old new (log_bytes told held) (log_bytes told' held') end)

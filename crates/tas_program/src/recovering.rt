@@ -99,7 +99,8 @@ pub fn run_recovery<F: Folder, R: Read, W: Write, E: Write>(
     // the line that they name, or over all lines where they name none. It is done only where its report, how many edits
     // were made and whether a last line was cut, is written whole to `errors`.
     // Refused: recovery_has_an_empty_report, report_of_a_recovery_goes_to_standard_output, whole_journal_is_reported_as_cut,
-    // line_of_until_is_made_too, lines_are_left_out_without_until, until_is_ignored, report_without_memory_is_a_good_end.
+    // line_of_until_is_made_too, lines_are_left_out_without_until, until_is_ignored, report_without_memory_is_a_good_end,
+    // unwritten_report_of_a_recovery_is_a_good_end.
     ensures { RecoveryEnds
         (files_by (F.bytes_of folder.now) (F.held_by folder.now) (F.shown folder.now)) words.entry
         (record { input = R.remaining input.old; output = W.contents output.old })

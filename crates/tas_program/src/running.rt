@@ -375,6 +375,7 @@ fn report<A: Allocator, E: Write>(alloc: A, errors: &mut E, end: Result<(), Task
                 TaskFault::Search(_) => Status::Fault,
                 TaskFault::Recover(_) => Status::Fault,
                 TaskFault::Report(_) => Status::Fault,
+                TaskFault::NoReport => Status::Fault,
                 TaskFault::Save(_) => Status::Fault,
             }
         }

@@ -1,20 +1,23 @@
 //! Searches, and the tasks that report to standard error as they do.
 //!
-//! A search's answer has two parts: the script goes to standard output, so that it can go on to a file or to `tas edit`, and the verdict
-//! to standard error, where somebody sees it beside. It alone says of which sequences the script is the best. So a search whose
-//! verdict can't be written ends with a fault, while the line of a fault that can't be written changes nothing.
+//! A search's answer has two parts: the script goes to standard output, so that it can go on to a file or to `tas edit`, and the report
+//! to standard error, where somebody sees it beside: a line for each layer as it is searched, and then the verdict. It alone says of which
+//! sequences the script is the best. So a search whose report can't be written ends with a fault, while the line of a fault that can't be
+//! written changes nothing. With `--report` a new file gets the same lines as they are made: what a signal leaves of it is whole lines. The file
+//! must be new, so nothing that is there is written over, and it is none that another word or stream stands for.
 
 ghost use Rattle.std.specs.Prelude.{◌≡◌, ◌⊎◌, map, IfOk, IfErr};
 ghost use Rattle.tas_program.specs.Files.{files_by};
 ghost use Rattle.tas_program.specs.Program.{EngineEnds};
 ghost use Rattle.tas_program.specs.Reporting.{ReportedEnds, reported_of};
-ghost use Rattle.tas_program.specs.Searching.{IsAskedFor, Reports, SearchEnds, Searches, SearchesOver, bytes_end, search_files};
+ghost use Rattle.tas_program.specs.Searching.{IsAskedFor, Reports, ReportsVerdict, RunsSearch, SearchEnds, Searches, SearchesOver, bytes_end, search_files};
+ghost use Rattle.tas_search.specs.Logs.{log_bytes};
 
 use crate::recovering::run_recovery;
 use crate::running::{ended, open_all, run_engine};
 use crate::{Folder, Permit, TaskFault};
 use std::alloc::{Allocator, Global};
-use std::io::{Read, Write};
+use std::io::{Read, Write, sink};
 use std::sync::Wait;
 use std::thread::Threads;
 use tas_search::{Search, search_run};
@@ -50,6 +53,7 @@ fn asked_of<'a>(words: SearchWords<'a>) -> Search<'a>
         frames: words.frames,
         hold: words.hold,
         states: words.states,
+        workers: words.workers,
         has_choices: words.choices.is_some(),
         has_names: words.names.is_some(),
         goal: words.goal.as_bytes(),
@@ -81,42 +85,28 @@ fn open_inputs<F: Folder>(
     }
 }
 
-/// Searches by these words over files that are open, writes the script and returns the report.
-fn search_over<C: Read, R: Read, W: Write>(
+/// Searches by these words over files that are open, reports its layers, writes the script and returns the verdict.
+fn search_over<T: Threads + Sync, C: Read, R: Read, W: Write, E: Write, P: Write>(
+    rt: &T,
     alloc: Global,
     words: SearchWords<'_>,
     files: &mut [C],
     input: &mut R,
     output: &mut W,
+    errors: &mut E,
+    report: &mut P,
 ) -> Result<Vec<u8>, TaskFault>
     ensures { SearchesOver words.entry (map C.remaining files.old) (map C.remaining files.new)
-        (R.remaining input.old) (R.remaining input.new) (W.contents output.old)
-        (W.contents output.new) (bytes_end (λ report. report.items) result) }
-{
-    let asked = asked_of(words);
-    match search_run(alloc, &asked, files, input, output) {
-        Ok(report) => Ok(report),
-        Err(error) => Err(TaskFault::Search(error)),
-    }
-}
-
-/// Opens the files of a search by these words, writes the script and returns the report.
-fn report_of<F: Folder, R: Read, W: Write>(
-    alloc: Global,
-    words: SearchWords<'_>,
-    folder: &F,
-    input: &mut R,
-    output: &mut W,
-) -> Result<Vec<u8>, TaskFault>
-    ensures { Searches (files_by (F.bytes_of folder.now) (F.held_by folder.now) (F.shown folder.now))
-        words.entry
         (record { input = R.remaining input.old; output = W.contents output.old })
         (record { input = R.remaining input.new; output = W.contents output.new })
-        (bytes_end (λ report. report.items) result) }
+        (log_bytes (E.contents errors.old) (P.contents report.old))
+        (log_bytes (E.contents errors.new) (P.contents report.new))
+        (bytes_end (λ verdict. verdict.items) result) }
 {
-    match open_inputs(alloc, words, folder) {
-        Ok(mut files) => search_over(alloc, words, files.as_mut_slice(), input, output),
-        Err(fault) => Err(TaskFault::Tool(fault)),
+    let asked = asked_of(words);
+    match search_run(rt, alloc, &asked, files, input, output, errors, report) {
+        Ok(verdict) => Ok(verdict),
+        Err(error) => Err(TaskFault::Search(error)),
     }
 }
 
@@ -137,50 +127,170 @@ pub(crate) fn write_report<E: Write>(
     }
 }
 
-/// Does a search: opens its files, reads them and the input, writes the script that makes the best inputs to the output, and then the
-/// verdict, a line, to `errors`.
-///
-/// Faults: `Tool` where a file can't be opened, `Search` of the search, and then nothing is written to `errors`; `Report` where the verdict isn't
-/// written whole, and then the script is.
-pub fn run_search<F: Folder, R: Read, W: Write, E: Write>(
+/// Opens the files of a search by these words, reports its layers, writes the script and returns the verdict.
+fn verdict_of<T: Threads + Sync, F: Folder, R: Read, W: Write, E: Write, P: Write>(
+    rt: &T,
     alloc: Global,
     words: SearchWords<'_>,
     folder: &F,
     input: &mut R,
     output: &mut W,
     errors: &mut E,
+    report: &mut P,
+) -> Result<Vec<u8>, TaskFault>
+    ensures { Searches (files_by (F.bytes_of folder.now) (F.held_by folder.now) (F.shown folder.now))
+        words.entry
+        (record { input = R.remaining input.old; output = W.contents output.old })
+        (record { input = R.remaining input.new; output = W.contents output.new })
+        (log_bytes (E.contents errors.old) (P.contents report.old))
+        (log_bytes (E.contents errors.new) (P.contents report.new))
+        (bytes_end (λ verdict. verdict.items) result) }
+{
+    match open_inputs(alloc, words, folder) {
+        Ok(mut files) => search_over(
+            rt,
+            alloc,
+            words,
+            files.as_mut_slice(),
+            input,
+            output,
+            errors,
+            report,
+        ),
+        Err(fault) => Err(TaskFault::Tool(fault)),
+    }
+}
+
+/// Writes the verdict of a search, where there is one, to the report and to standard error.
+fn write_verdict<E: Write, P: Write>(
+    done: Result<Vec<u8>, TaskFault>,
+    errors: &mut E,
+    report: &mut P,
 ) -> Result<(), TaskFault>
-    // A search is done by `search_run`, over the files that its words name, the input and the output, with its own numbers and
-    // goal. It is done only where its report, the verdict's line, is written whole to `errors`.
-    // Refused: verdict_is_left_out, unwritten_verdict_is_a_good_end, verdict_goes_to_standard_output,
-    // names_file_is_read_for_the_choices, each_choice_is_held_for_one_frame, search_keeps_as_many_states_as_it_has_frames.
+    ensures { ReportsVerdict (bytes_end (λ verdict. verdict.items) done)
+        (log_bytes (E.contents errors.old) (P.contents report.old))
+        (log_bytes (E.contents errors.new) (P.contents report.new)) result }
+{
+    let verdict = match done {
+        Err(fault) => return Err(fault),
+        Ok(verdict) => verdict,
+    };
+    if let Err(fault) = write_all(report, verdict.as_slice()) {
+        return Err(TaskFault::Report(fault));
+    }
+    match write_all(errors, verdict.as_slice()) {
+        Err(fault) => Err(TaskFault::Report(fault)),
+        Ok(()) => Ok(()),
+    }
+}
+
+/// Does a search with these two writers of its report.
+fn search_with<T: Threads + Sync, F: Folder, R: Read, W: Write, E: Write, P: Write>(
+    rt: &T,
+    alloc: Global,
+    words: SearchWords<'_>,
+    folder: &F,
+    input: &mut R,
+    output: &mut W,
+    errors: &mut E,
+    report: &mut P,
+) -> Result<(), TaskFault>
     ensures { SearchEnds (files_by (F.bytes_of folder.now) (F.held_by folder.now) (F.shown folder.now))
         words.entry
         (record { input = R.remaining input.old; output = W.contents output.old })
         (record { input = R.remaining input.new; output = W.contents output.new })
-        (E.contents errors.old) (E.contents errors.new) result }
+        (log_bytes (E.contents errors.old) (P.contents report.old))
+        (log_bytes (E.contents errors.new) (P.contents report.new)) result }
 {
-    let done = report_of(alloc, words, folder, input, output);
-    write_report(done, errors)
+    let done = verdict_of(rt, alloc, words, folder, input, output, errors, report);
+    write_verdict(done, errors, report)
 }
 
-/// Does a task that reports, as [`run_search`] and [`run_recovery`] do.
-fn run_reported<F: Folder, R: Read, W: Write, E: Write>(
+/// Removes a file that has no bytes.
+fn remove_empty<F: Folder>(permit: Permit, folder: &F, name: &str) {
+    match folder.look(name) {
+        Some(file) if file.len == 0 => folder.remove(permit, name),
+        _ => {}
+    }
+}
+
+/// Does a search: makes the file of its report where the words name one, opens its files, reads them and the input, writes a line for each
+/// layer to `errors` and to the report as it goes, the script that makes the best inputs to the output, and then the verdict, a line, where the
+/// others went.
+///
+/// Faults: `NoReport` where the report's file can't be made, since there is one of its name, say, and then nothing is opened; `Tool` where a
+/// file can't be opened, `Search` of the search, and then the report has no verdict; `Report` where the verdict isn't written whole, and then
+/// the script is. A file of a report that has no line at a fault is removed.
+pub fn run_search<T: Threads + Sync, F: Folder, R: Read, W: Write, E: Write>(
+    rt: &T,
     alloc: Global,
-    words: Reported<'_>,
+    words: SearchWords<'_>,
+    permit: Permit,
     folder: &F,
     input: &mut R,
     output: &mut W,
     errors: &mut E,
 ) -> Result<(), TaskFault>
-    ensures { ReportedEnds
+    // A search is done by `search_run`, over the files that its words name, the input and the output, with its own numbers and
+    // goal. It is done only where its report, the lines of the layers and the verdict, is written whole to `errors`, and to a new file
+    // where the words name one, as the folder states its steps.
+    // Refused: verdict_is_left_out, unwritten_verdict_is_a_good_end, verdict_goes_to_standard_output,
+    // names_file_is_read_for_the_choices, each_choice_is_held_for_one_frame, search_keeps_as_many_states_as_it_has_frames,
+    // report_file_is_left_out.
+    ensures { RunsSearch F.steps
+        (files_by (F.bytes_of folder.now) (F.held_by folder.now) (F.shown folder.now)) words.entry
+        (record { input = R.remaining input.old; output = W.contents output.old })
+        (record { input = R.remaining input.new; output = W.contents output.new })
+        (E.contents errors.old) (E.contents errors.new) result }
+{
+    match words.report {
+        None => {
+            let mut nowhere = sink();
+            search_with(
+                rt,
+                alloc,
+                words,
+                folder,
+                input,
+                output,
+                errors,
+                &mut nowhere,
+            )
+        }
+        Some(name) => {
+            let Ok(mut file) = folder.create_new(permit, name) else {
+                return Err(TaskFault::NoReport);
+            };
+            let end = search_with(rt, alloc, words, folder, input, output, errors, &mut file);
+            if end.is_err() {
+                remove_empty(permit, folder, name);
+            }
+            end
+        }
+    }
+}
+
+/// Does a task that reports, as [`run_search`] and [`run_recovery`] do.
+fn run_reported<T: Threads + Sync, F: Folder, R: Read, W: Write, E: Write>(
+    rt: &T,
+    alloc: Global,
+    words: Reported<'_>,
+    permit: Permit,
+    folder: &F,
+    input: &mut R,
+    output: &mut W,
+    errors: &mut E,
+) -> Result<(), TaskFault>
+    ensures { ReportedEnds F.steps
         (files_by (F.bytes_of folder.now) (F.held_by folder.now) (F.shown folder.now)) words.entry
         (record { input = R.remaining input.old; output = W.contents output.old })
         (record { input = R.remaining input.new; output = W.contents output.new })
         (E.contents errors.old) (E.contents errors.new) result }
 {
     match words {
-        Reported::Search(words) => run_search(alloc, words, folder, input, output, errors),
+        Reported::Search(words) => {
+            run_search(rt, alloc, words, permit, folder, input, output, errors)
+        }
         Reported::Recovery(words) => run_recovery(alloc, words, folder, input, output, errors),
     }
 }
@@ -211,7 +321,7 @@ pub(crate) fn do_task<
         (record { input = R.remaining input.new; output = W.contents output.new }) result }
 {
     match reported_of(task) {
-        Some(words) => run_reported(global, words, folder, input, output, errors),
+        Some(words) => run_reported(rt, global, words, permit, folder, input, output, errors),
         None => {
             let end = run_engine(rt, global, alloc, task, permit, folder, input, output);
             ended(end)

@@ -28,6 +28,9 @@ pub enum TaskFault {
     /// recovery, and no byte of the report is.
     #[error("fault: report: {0}")]
     Report(RunFault),
+    /// It is a search, and the file of its report can't be made: the status is 1, and nothing is read.
+    #[error("fault: report: not created")]
+    NoReport,
     /// Its engine is done, but its output didn't replace the file: the status is 1.
     #[error("{0}")]
     Save(SaveFault),

@@ -14,3 +14,6 @@ returns-in-Recover g c = rw (c.in-Err.is, c.in-Recover.is)
 
 pub returns-in-Report : goal.returns-in-Report
 returns-in-Report g c = rw (c.in-Err.is, c.in-Report.is)
+
+pub returns-in-NoReport : goal.returns-in-NoReport
+returns-in-NoReport g c = rw (c.in-Err.is, c.in-NoReport.is)

@@ -1,4 +1,6 @@
+use Rattle.std.proofs.Common.{ap, inl, inr, refl}
+use Rattle.std.specs.Prelude.{is_some}
 use Rattle.tas_program.proofs.searching.run_search.Goals as goal
 
-pub returns : goal.returns
-returns g c = record { done = _; searches = c.report_of-done.ensures; reports = c.write_report.ensures }
+pub returns-in-None : goal.returns-in-None
+returns-in-None g c = inr (_, _, rw c.in-None.is tt, c.search_with.ensures)
