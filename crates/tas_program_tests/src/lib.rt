@@ -34,6 +34,8 @@ mod real_file_tests;
 #[cfg(test)]
 mod real_output_tests;
 #[cfg(test)]
+mod real_report_tests;
+#[cfg(test)]
 mod recovery_tests;
 #[cfg(test)]
 mod saving_tests;

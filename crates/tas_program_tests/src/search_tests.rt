@@ -1,6 +1,6 @@
 //! `tas search`: the script on standard output, the verdict on standard error, and the fault of each input.
 
-use crate::checks::check_same;
+use crate::checks::{check_same, expect_ok};
 use crate::movies::{IDLE, Program, Recording, recording_of};
 use crate::programs::{End, check_ran, words_of};
 use std::alloc::Global;
@@ -14,7 +14,7 @@ use test_streams::{Failure, Giver, Room, Taker};
 
 /// `000=18A9028500A9008500AD80020AB002E6800AB002C68085024C00F0 FFC=00F0`: each frame but the first counts the byte at 80 up if the left stick
 /// is to the right, and down if it is to the left.
-const COUNTING: Program = Program {
+pub const COUNTING: Program = Program {
     bytes: b"\x18\xa9\x02\x85\x00\xa9\x00\x85\x00\xad\x80\x02\x0a\xb0\x02\xe6\x80\x0a\xb0\x02\xc6\x80\x85\x02\x4c\x00\xf0",
     digest: "953a48a0284b192294dc2804abb48a7da778e16bb0fa25219d2efab1b4cb7e02",
 };
@@ -104,7 +104,9 @@ static SEARCHES: [(&[&str], &[u8], &[u8]); 9] = [
             "names",
         ],
         b"replace 3 1 R.... ..... .....\nreplace 4 1 R.... ..... .....\n",
-        b"best of all 81 sequences\n",
+        b"layer 1: 1 frames, 3 states, 0 merged, 3 played\n\
+layer 2: 2 frames, 5 states, 4 merged, 9 played\n\
+best of all 81 sequences\n",
     ),
     (
         &[
@@ -121,7 +123,9 @@ static SEARCHES: [(&[&str], &[u8], &[u8]); 9] = [
             "2",
         ],
         b"insert 5 2 ..... ..... .....\nreplace 3 2 R.... ..... .....\nreplace 5 2 R.... ..... .....\n",
-        b"best of all 9 sequences\n",
+        b"layer 1: 2 frames, 3 states, 0 merged, 6 played\n\
+layer 2: 4 frames, 5 states, 4 merged, 18 played\n\
+best of all 9 sequences\n",
     ),
     (
         &[
@@ -134,12 +138,14 @@ static SEARCHES: [(&[&str], &[u8], &[u8]); 9] = [
             "choices",
         ],
         b"replace 3 1 R.... ..... .....\n",
-        b"best of all 3 sequences\n",
+        b"layer 1: 1 frames, 3 states, 0 merged, 3 played\n\
+best of all 3 sequences\n",
     ),
     (
         &["search", "game.bin", "3", "1", "reach byte:80 == 1"],
         b"replace 3 1 R.... ..... .....\n",
-        b"best of all 18 sequences\n",
+        b"layer 1: 1 frames, 3 states, 15 merged, 18 played\n\
+best of all 18 sequences\n",
     ),
     (
         &[
@@ -152,7 +158,8 @@ static SEARCHES: [(&[&str], &[u8], &[u8]); 9] = [
             "names",
         ],
         b"replace 3 1 R.... ..... .....\n",
-        b"best of all 18 sequences\n",
+        b"layer 1: 1 frames, 3 states, 15 merged, 18 played\n\
+best of all 18 sequences\n",
     ),
     (
         &["search", "game.bin", "3", "0", "most byte:80"],
@@ -170,7 +177,11 @@ static SEARCHES: [(&[&str], &[u8], &[u8]); 9] = [
             "choices",
         ],
         b"",
-        b"none: not one of all 81 sequences reaches it\n",
+        b"layer 1: 1 frames, 3 states, 0 merged, 3 played\n\
+layer 2: 2 frames, 5 states, 4 merged, 9 played\n\
+layer 3: 3 frames, 7 states, 8 merged, 15 played\n\
+layer 4: 4 frames, 9 states, 12 merged, 21 played\n\
+none: not one of all 81 sequences reaches it\n",
     ),
     (
         &[
@@ -200,7 +211,8 @@ static SEARCHES: [(&[&str], &[u8], &[u8]); 9] = [
             "4",
         ],
         b"",
-        b"stopped: more than 4 states in layer 2\n",
+        b"layer 1: 1 frames, 3 states, 0 merged, 3 played\n\
+stopped: more than 4 states in layer 2\n",
     ),
 ];
 
@@ -347,7 +359,7 @@ fn verdict_that_cannot_be_written_is_a_fault(rt: HostRuntime) {
     let alloc = rt.alloc();
     let movie = five_frames(&rt, alloc);
     let mut output = Vec::new(alloc);
-    let mut errors = Taker::new(alloc, 1000, Room::Bytes(11), Failure::Error);
+    let mut errors = Taker::new(alloc, 1000, Room::Bytes(61), Failure::Error);
     let code = run_search(
         &rt,
         alloc,
@@ -358,6 +370,49 @@ fn verdict_that_cannot_be_written_is_a_fault(rt: HostRuntime) {
     );
     let script = b"replace 3 1 R.... ..... .....\n".as_slice();
     check_same(&rt, "end", (code, output.as_slice()), (1, script));
-    let first = b"best of all".as_slice();
+    let first = b"layer 1: 1 frames, 3 states, 15 merged, 18 played\nbest of all".as_slice();
     check_same(&rt, "verdict", errors.taken.as_slice(), first);
+}
+
+/// So does each line of the report, which a search has to show as it goes.
+#[test]
+fn line_that_cannot_be_written_is_a_fault(rt: HostRuntime) {
+    let alloc = rt.alloc();
+    let movie = five_frames(&rt, alloc);
+    let mut output = Vec::new(alloc);
+    let mut errors = Taker::new(alloc, 1000, Room::Bytes(8), Failure::Error);
+    let code = run_search(
+        &rt,
+        alloc,
+        &movie,
+        FIRST.as_slice(),
+        &mut output,
+        &mut errors,
+    );
+    check_same(&rt, "end", (code, output.as_slice()), (1, b"".as_slice()));
+    check_same(&rt, "line", errors.taken.as_slice(), b"layer 1:".as_slice());
+}
+
+/// The answer and the report are the same by any number of workers.
+#[test]
+fn workers_change_nothing(rt: HostRuntime) {
+    let alloc = rt.alloc();
+    let movie = five_frames(&rt, alloc);
+    let (words, script, report) = &SEARCHES[0];
+    for workers in ["1", "2", "16"] {
+        let mut asked = expect_ok(&rt, Vec::from_slice(alloc, words));
+        expect_ok(&rt, asked.push("--workers"));
+        expect_ok(&rt, asked.push(workers));
+        check_end(&rt, alloc, &movie, asked.as_slice(), (0, script, report));
+    }
+}
+
+/// This folder makes no file, so there is no report.
+#[test]
+fn report_that_cannot_be_made_is_a_fault(rt: HostRuntime) {
+    let alloc = rt.alloc();
+    let movie = five_frames(&rt, alloc);
+    let words = ["search", "none.bin", "3", "1", "reach 1", "--report", "new"];
+    let line = b"fault: report: not created\n".as_slice();
+    check_end(&rt, alloc, &movie, &words, (1, b"", line));
 }

@@ -139,7 +139,7 @@ fn each_command_is_its_task(rt: HostRuntime) {
 
 /// Words that are no task: none, an unknown one, too few, too many, numbers past their ranges and
 /// texts that are no numbers, unknown flags.
-static MISUSES: [&[&str]; 103] = [
+static MISUSES: [&[&str]; 106] = [
     &[],
     &[""],
     &["play"],
@@ -189,6 +189,9 @@ static MISUSES: [&[&str]; 103] = [
         "search", "game.bin", "0", "1", "reach 1", "--names", "other", "--names", "other",
     ],
     &["search", "game.bin", "0", "1", "reach 1", "-o", "other"],
+    &["search", "game.bin", "0", "1", "reach 1", "--workers", "0"],
+    &["search", "game.bin", "0", "1", "reach 1", "--workers", "17"],
+    &["search", "game.bin", "0", "1", "reach 1", "--report"],
     &["shot", "game.bin"],
     &["shot", "game.bin", "10000000"],
     &["shot", "game.bin", "-1"],

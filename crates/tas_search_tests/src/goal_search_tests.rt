@@ -1,9 +1,11 @@
 //! Searches for goals by their texts, and the changes that write what was found into a movie.
 
 use crate::checks::{check_same, check_that, expect_ok, expect_some};
-use crate::goals::{COUNTER, cart_of, still, three_choices};
+use crate::goals::{COUNTER, cart_of, limits, still, three_choices};
 use std::alloc::Global;
+use std::io::sink;
 use std::process::Abort;
+use std::thread::Threads;
 use tas_language::{Change, change_line, read_change};
 use tas_movie::{Edit, Inputs, Movie, apply, check, print_frame};
 use tas_search::{
@@ -13,7 +15,7 @@ use tas_search::{
 use vcs_machine::{Input, State};
 
 /// The choices of the best sequence, where there is one.
-fn found<R: Abort>(
+fn found<R: Abort + Threads + Sync>(
     rt: &R,
     alloc: Global,
     space: &Space<'_, Global>,
@@ -21,7 +23,18 @@ fn found<R: Abort>(
 ) -> Option<Vec<usize>> {
     let names = expect_ok(rt, read_names(alloc, b"n 80\n"));
     let goal = expect_ok(rt, read_goal(alloc, names.as_slice(), text));
-    match expect_ok(rt, find_goal(alloc, space, &goal, 4, 100)) {
+    match expect_ok(
+        rt,
+        find_goal(
+            rt,
+            alloc,
+            space,
+            &goal,
+            limits(4, 100),
+            &mut sink(),
+            &mut sink(),
+        ),
+    ) {
         Found::Best(choices) => Some(choices),
         _ => None,
     }
@@ -78,7 +91,13 @@ fn make<R: Abort>(rt: &R, alloc: Global, movie: &mut Movie, changes: &[Change]) 
 
 /// Searches a movie of `len` frames from frame 3 on for what a text asks, writes what was found into it, and plays it to the end of that:
 /// the number at 80 then.
-fn played<R: Abort>(rt: &R, alloc: Global, len: usize, text: &[u8], hold: usize) -> u8 {
+fn played<R: Abort + Threads + Sync>(
+    rt: &R,
+    alloc: Global,
+    len: usize,
+    text: &[u8],
+    hold: usize,
+) -> u8 {
     let mut movie = still(rt, alloc, COUNTER, len);
     let names = expect_ok(rt, read_names(alloc, b"n 80\n"));
     let goal = expect_ok(rt, read_goal(alloc, names.as_slice(), text));
@@ -87,10 +106,20 @@ fn played<R: Abort>(rt: &R, alloc: Global, len: usize, text: &[u8], hold: usize)
         count: 3,
         hold,
         states: 100,
+        workers: 3,
     };
     let (found, changes) = expect_ok(
         rt,
-        search_movie(alloc, &movie, &three_choices(), &goal, range),
+        search_movie(
+            rt,
+            alloc,
+            &movie,
+            &three_choices(),
+            &goal,
+            range,
+            &mut sink(),
+            &mut sink(),
+        ),
     );
     let count = match &found {
         Found::Best(choices) => choices.len(),
@@ -131,7 +160,7 @@ fn what_was_found_is_written_into_a_movie(rt: HostRuntime) {
 }
 
 /// How the search for `n == 4` over a movie of five frames ends: how many choices were found and how many changes, or the fault.
-fn searched<R: Abort>(
+fn searched<R: Abort + Threads + Sync>(
     rt: &R,
     alloc: Global,
     from: usize,
@@ -146,8 +175,18 @@ fn searched<R: Abort>(
         count,
         hold,
         states: 100,
+        workers: 3,
     };
-    let (found, changes) = search_movie(alloc, &movie, &three_choices(), &goal, range)?;
+    let (found, changes) = search_movie(
+        rt,
+        alloc,
+        &movie,
+        &three_choices(),
+        &goal,
+        range,
+        &mut sink(),
+        &mut sink(),
+    )?;
     let count = match &found {
         Found::Best(choices) => Some(choices.len()),
         _ => None,

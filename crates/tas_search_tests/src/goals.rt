@@ -4,7 +4,7 @@ use crate::checks::{expect_ok, expect_some};
 use std::alloc::Global;
 use std::process::Abort;
 use tas_movie::{Edit, Inputs, Movie, apply, check};
-use tas_search::{Expression, Formula, Operator};
+use tas_search::{Expression, Formula, Limits, Operator};
 use vcs_machine::{Cart, Input};
 
 /// Each frame but the first counts the byte at 80 up if the left stick is to the right, and down if it is to the left. Every frame takes one
@@ -79,4 +79,13 @@ pub fn counter_is<R: Abort>(rt: &R, alloc: Global, number: u32) -> Formula {
         rt,
         Formula::new(joined(rt, alloc, Operator::Equal, byte, wanted)),
     )
+}
+
+/// A search of this many choices, that keeps this many states of each number of choices, by two workers.
+pub fn limits(count: usize, states: usize) -> Limits {
+    Limits {
+        count,
+        states,
+        workers: 2,
+    }
 }

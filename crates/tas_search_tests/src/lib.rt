@@ -14,6 +14,8 @@ mod goals;
 #[cfg(test)]
 mod plain;
 #[cfg(test)]
+mod report_tests;
+#[cfg(test)]
 mod run_tests;
 #[cfg(test)]
 mod search_tests;

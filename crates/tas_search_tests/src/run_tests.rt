@@ -4,7 +4,9 @@ use crate::checks::{check_same, check_that, expect_ok, expect_some};
 use crate::goals::{COUNTER, TRAP, cart_of, still, three_choices};
 use crate::plain::shortest;
 use std::alloc::Global;
+use std::io::sink;
 use std::process::Abort;
+use std::thread::Threads;
 use tas_engines::{ReadFault, RunFault};
 use tas_language::{Change, change_line};
 use tas_movie::print_text;
@@ -36,6 +38,7 @@ fn search(frames: usize, hold: usize, states: usize, goal: &[u8]) -> Search<'_> 
         frames,
         hold,
         states,
+        workers: 2,
         has_choices: true,
         has_names: true,
         goal,
@@ -43,7 +46,7 @@ fn search(frames: usize, hold: usize, states: usize, goal: &[u8]) -> Search<'_> 
 }
 
 /// What a search writes and reports: the script, and after it the report.
-fn said<R: Abort>(
+fn said<R: Abort + Threads + Sync>(
     rt: &R,
     alloc: Global,
     search: &Search<'_>,
@@ -53,7 +56,16 @@ fn said<R: Abort>(
     let mut out = Vec::new(alloc);
     let report = expect_ok(
         rt,
-        search_run(alloc, search, files, &mut { movie }, &mut out),
+        search_run(
+            rt,
+            alloc,
+            search,
+            files,
+            &mut { movie },
+            &mut out,
+            &mut sink(),
+            &mut sink(),
+        ),
     );
     expect_ok(rt, out.extend_from_slice(report.as_slice()));
     out
@@ -275,7 +287,7 @@ fn a_plain_search_finds_the_same(rt: HostRuntime) {
 }
 
 /// How a search of a movie of five frames ends that has a fault; nothing is written.
-fn fault<R: Abort>(
+fn fault<R: Abort + Threads + Sync>(
     rt: &R,
     alloc: Global,
     search: &Search<'_>,
@@ -283,7 +295,16 @@ fn fault<R: Abort>(
     movie: &[u8],
 ) -> Option<SearchError> {
     let mut out = Vec::new(alloc);
-    let end = search_run(alloc, search, files, &mut { movie }, &mut out);
+    let end = search_run(
+        rt,
+        alloc,
+        search,
+        files,
+        &mut { movie },
+        &mut out,
+        &mut sink(),
+        &mut sink(),
+    );
     check_same(rt, "nothing is written", out.len(), 0);
     end.err()
 }
@@ -452,7 +473,16 @@ fn reads_and_writes_are_refused(rt: HostRuntime) {
         ];
         let mut text = Giver::new(movie.as_slice(), 1000, fails[3]);
         let mut out = Vec::new(alloc);
-        let end = search_run(alloc, &search, &mut files, &mut text, &mut out);
+        let end = search_run(
+            &rt,
+            alloc,
+            &search,
+            &mut files,
+            &mut text,
+            &mut out,
+            &mut sink(),
+            &mut sink(),
+        );
         check_that(
             &rt,
             case,
@@ -466,11 +496,14 @@ fn reads_and_writes_are_refused(rt: HostRuntime) {
             let mut out = Taker::new(alloc, 7, Room::Bytes(room), failure);
             let mut files = [image.as_slice(), CHOICES, b"n 80\n"];
             let end = search_run(
+                &rt,
                 alloc,
                 &search,
                 &mut files,
                 &mut { movie.as_slice() },
                 &mut out,
+                &mut sink(),
+                &mut sink(),
             );
             check_that(
                 &rt,

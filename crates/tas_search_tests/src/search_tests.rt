@@ -1,10 +1,12 @@
 //! Searches against plain ones.
 
 use crate::checks::{check_same, check_that, expect_ok};
-use crate::goals::{COUNTER, HIDDEN, TRAP, cart_of, counter, counter_is, three_choices};
+use crate::goals::{COUNTER, HIDDEN, TRAP, cart_of, counter, counter_is, limits, three_choices};
 use crate::plain::{extreme, shortest};
 use std::alloc::Global;
+use std::io::sink;
 use std::process::Abort;
+use std::thread::Threads;
 use tas_movie::{Edit, Inputs, Movie, apply, check};
 use tas_search::{Aim, Found, Space, find_extreme, find_shortest, state_at};
 use vcs_machine::{Cart, State};
@@ -26,12 +28,23 @@ fn is_same(found: &Found, wanted: &Option<Vec<usize>>) -> bool {
 }
 
 /// Searches for each number, each choice held for `hold` frames, and compares with the plain search.
-fn check_numbers<R: Abort>(rt: &R, alloc: Global, cart: &Cart, hold: usize) {
+fn check_numbers<R: Abort + Threads + Sync>(rt: &R, alloc: Global, cart: &Cart, hold: usize) {
     let inputs = three_choices();
     let space = Space::new(cart, State::power_on(cart), &inputs, hold);
     for number in [0u8, 1, 2, 3, 4, 5, 252, 253, 255] {
         let goal = counter_is(rt, alloc, u32::from(number));
-        let found = expect_ok(rt, find_shortest(alloc, &space, &goal, 5, 100));
+        let found = expect_ok(
+            rt,
+            find_shortest(
+                rt,
+                alloc,
+                &space,
+                &goal,
+                limits(5, 100),
+                &mut sink(),
+                &mut sink(),
+            ),
+        );
         let wanted = shortest(rt, alloc, cart, &inputs, hold, number);
         check_that(rt, number, is_same(&found, &wanted));
     }
@@ -62,7 +75,16 @@ fn the_greatest_is_that_of_the_plain_search(rt: HostRuntime) {
         let space = Space::new(&cart, State::power_on(&cart), &inputs, 1);
         let found = expect_ok(
             &rt,
-            find_extreme(alloc, &space, Aim::Most, &counter(&rt), 5, 100),
+            find_extreme(
+                &rt,
+                alloc,
+                &space,
+                Aim::Most,
+                &counter(&rt),
+                limits(5, 100),
+                &mut sink(),
+                &mut sink(),
+            ),
         );
         check_that(
             &rt,
@@ -81,14 +103,36 @@ fn a_search_stops_where_there_are_too_many_states(rt: HostRuntime) {
     let goal = counter_is(&rt, alloc, 4);
     // The first frame is a lag frame; after two there are three numbers, and two more after each further one.
     for (states, layer) in [(2, 2), (3, 3), (4, 3), (5, 4), (7, 5)] {
-        let found = expect_ok(&rt, find_shortest(alloc, &space, &goal, 5, states));
+        let found = expect_ok(
+            &rt,
+            find_shortest(
+                &rt,
+                alloc,
+                &space,
+                &goal,
+                limits(5, states),
+                &mut sink(),
+                &mut sink(),
+            ),
+        );
         check_that(
             &rt,
             states,
             matches!(found, Found::Stopped(at) if at == layer),
         );
     }
-    let found = expect_ok(&rt, find_shortest(alloc, &space, &goal, 5, 9));
+    let found = expect_ok(
+        &rt,
+        find_shortest(
+            &rt,
+            alloc,
+            &space,
+            &goal,
+            limits(5, 9),
+            &mut sink(),
+            &mut sink(),
+        ),
+    );
     check_same(
         &rt,
         9,
@@ -105,7 +149,16 @@ fn the_least_is_the_first_of_its_equals(rt: HostRuntime) {
     let space = Space::new(&cart, State::power_on(&cart), &inputs, 1);
     let found = expect_ok(
         &rt,
-        find_extreme(alloc, &space, Aim::Least, &counter(&rt), 3, 100),
+        find_extreme(
+            &rt,
+            alloc,
+            &space,
+            Aim::Least,
+            &counter(&rt),
+            limits(3, 100),
+            &mut sink(),
+            &mut sink(),
+        ),
     );
     check_that(
         &rt,
@@ -128,12 +181,31 @@ fn a_choice_is_held(rt: HostRuntime) {
         (255, &[1, 2]),
     ] {
         let goal = counter_is(&rt, alloc, number);
-        let found = expect_ok(&rt, find_shortest(alloc, &space, &goal, 4, 100));
+        let found = expect_ok(
+            &rt,
+            find_shortest(
+                &rt,
+                alloc,
+                &space,
+                &goal,
+                limits(4, 100),
+                &mut sink(),
+                &mut sink(),
+            ),
+        );
         check_that(&rt, number, choices_of(&found) == Some(wanted));
     }
     let never = expect_ok(
         &rt,
-        find_shortest(alloc, &space, &counter_is(&rt, alloc, 1), 1, 100),
+        find_shortest(
+            &rt,
+            alloc,
+            &space,
+            &counter_is(&rt, alloc, 1),
+            limits(1, 100),
+            &mut sink(),
+            &mut sink(),
+        ),
     );
     check_that(&rt, 1, matches!(never, Found::Nothing));
 }
@@ -157,7 +229,15 @@ fn a_search_starts_in_a_movie(rt: HostRuntime) {
     let space = Space::new(movie.cart(), state_at(&movie, 3), &inputs, 1);
     let found = expect_ok(
         &rt,
-        find_shortest(alloc, &space, &counter_is(&rt, alloc, 4), 5, 100),
+        find_shortest(
+            &rt,
+            alloc,
+            &space,
+            &counter_is(&rt, alloc, 4),
+            limits(5, 100),
+            &mut sink(),
+            &mut sink(),
+        ),
     );
     check_that(&rt, 4, choices_of(&found) == Some([1, 1].as_slice()));
 }
@@ -171,14 +251,36 @@ fn states_of_equal_ram_are_told_apart(rt: HostRuntime) {
     let goal = counter_is(&rt, alloc, 77);
     // As many states as there are numbers of the counter in RAM.
     for (states, layer) in [(2, 2), (4, 3), (6, 4), (8, 5)] {
-        let found = expect_ok(&rt, find_shortest(alloc, &space, &goal, 5, states));
+        let found = expect_ok(
+            &rt,
+            find_shortest(
+                &rt,
+                alloc,
+                &space,
+                &goal,
+                limits(5, states),
+                &mut sink(),
+                &mut sink(),
+            ),
+        );
         check_that(
             &rt,
             states,
             matches!(found, Found::Stopped(at) if at == layer),
         );
     }
-    let found = expect_ok(&rt, find_shortest(alloc, &space, &goal, 5, 9));
+    let found = expect_ok(
+        &rt,
+        find_shortest(
+            &rt,
+            alloc,
+            &space,
+            &goal,
+            limits(5, 9),
+            &mut sink(),
+            &mut sink(),
+        ),
+    );
     check_that(&rt, 9, matches!(found, Found::Nothing));
 }
 
@@ -191,7 +293,16 @@ fn a_search_for_the_greatest_stops_too(rt: HostRuntime) {
     for (states, layer) in [(0, 1), (2, 2), (4, 3), (8, 5)] {
         let found = expect_ok(
             &rt,
-            find_extreme(alloc, &space, Aim::Most, &counter(&rt), 5, states),
+            find_extreme(
+                &rt,
+                alloc,
+                &space,
+                Aim::Most,
+                &counter(&rt),
+                limits(5, states),
+                &mut sink(),
+                &mut sink(),
+            ),
         );
         check_that(
             &rt,
@@ -201,7 +312,16 @@ fn a_search_for_the_greatest_stops_too(rt: HostRuntime) {
     }
     let found = expect_ok(
         &rt,
-        find_extreme(alloc, &space, Aim::Most, &counter(&rt), 5, 9),
+        find_extreme(
+            &rt,
+            alloc,
+            &space,
+            Aim::Most,
+            &counter(&rt),
+            limits(5, 9),
+            &mut sink(),
+            &mut sink(),
+        ),
     );
     // 255, which is one less than 0.
     check_that(
@@ -221,18 +341,47 @@ fn an_empty_layer_ends_a_search(rt: HostRuntime) {
     let none = Space::new(&cart, State::power_on(&cart), &[], 1);
     let last = expect_ok(
         &rt,
-        find_extreme(alloc, &right, Aim::Least, &counter(&rt), 3, 1),
+        find_extreme(
+            &rt,
+            alloc,
+            &right,
+            Aim::Least,
+            &counter(&rt),
+            limits(3, 1),
+            &mut sink(),
+            &mut sink(),
+        ),
     );
     check_that(&rt, 3, choices_of(&last) == Some([0, 0, 0].as_slice()));
     for count in [4, usize::MAX] {
         for space in [&right, &none] {
             let best = expect_ok(
                 &rt,
-                find_extreme(alloc, space, Aim::Least, &counter(&rt), count, 1),
+                find_extreme(
+                    &rt,
+                    alloc,
+                    space,
+                    Aim::Least,
+                    &counter(&rt),
+                    limits(count, 1),
+                    &mut sink(),
+                    &mut sink(),
+                ),
             );
             check_that(&rt, count, matches!(best, Found::Nothing));
             let goal = counter_is(&rt, alloc, 9);
-            let found = expect_ok(&rt, find_shortest(alloc, space, &goal, count, 1));
+            let found = expect_ok(
+                &rt,
+                find_shortest(
+                    &rt,
+                    alloc,
+                    space,
+                    &goal,
+                    limits(count, 1),
+                    &mut sink(),
+                    &mut sink(),
+                ),
+            );
             check_that(&rt, count, matches!(found, Found::Nothing));
         }
     }
@@ -271,13 +420,33 @@ fn changed_programs(rt: HostRuntime) {
         let space = Space::new(&cart, State::power_on(&cart), &inputs, hold);
         let number = next_bytes(&mut seed)[5] % 4;
         let goal = counter_is(&rt, alloc, u32::from(number));
-        let found = expect_ok(&rt, find_shortest(alloc, &space, &goal, 5, 1_000));
+        let found = expect_ok(
+            &rt,
+            find_shortest(
+                &rt,
+                alloc,
+                &space,
+                &goal,
+                limits(5, 1_000),
+                &mut sink(),
+                &mut sink(),
+            ),
+        );
         let wanted = shortest(&rt, alloc, &cart, &inputs, hold, number);
         check_that(&rt, case, is_same(&found, &wanted));
         for aim in [Aim::Most, Aim::Least] {
             let best = expect_ok(
                 &rt,
-                find_extreme(alloc, &space, aim, &counter(&rt), 5, 1_000),
+                find_extreme(
+                    &rt,
+                    alloc,
+                    &space,
+                    aim,
+                    &counter(&rt),
+                    limits(5, 1_000),
+                    &mut sink(),
+                    &mut sink(),
+                ),
             );
             let wanted = extreme(&rt, alloc, &cart, &inputs, hold, aim);
             check_that(&rt, case, is_same(&best, &wanted));

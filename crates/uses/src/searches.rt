@@ -2,12 +2,20 @@
 
 use anyhow::{Context, Result};
 use std::alloc::Global;
+use std::io::sink;
+use std::thread::Threads;
 use tas_movie::Movie;
 use tas_search::{Found, SearchRange, read_goal, read_names, search_movie};
 use vcs_inputs::Input;
 
 /// The shortest sequence of inputs, from a frame on, after which the byte at 80 is `value`: nothing, right or left in each frame.
-pub fn shortest_to(alloc: Global, movie: &Movie, frame: usize, value: u8) -> Result<Found<Global>> {
+pub fn shortest_to<R: Threads + Sync>(
+    rt: &R,
+    alloc: Global,
+    movie: &Movie,
+    frame: usize,
+    value: u8,
+) -> Result<Found<Global>> {
     let (mut right, mut left) = (Input::none(), Input::none());
     right.left.right = true;
     left.left.left = true;
@@ -26,10 +34,20 @@ pub fn shortest_to(alloc: Global, movie: &Movie, frame: usize, value: u8) -> Res
         count: 60,
         hold: 1,
         states: 1_000_000,
+        workers: 4,
     };
-    // Beside it come the changes that write it into the movie.
-    let (found, _) = search_movie(alloc, movie, &choices, &goal, range)
-        .ok()
-        .context("the search can't begin there")?;
+    // Beside it come the changes that write it into the movie. Nobody reads the report here.
+    let (found, _) = search_movie(
+        rt,
+        alloc,
+        movie,
+        &choices,
+        &goal,
+        range,
+        &mut sink(),
+        &mut sink(),
+    )
+    .ok()
+    .context("the search can't begin there")?;
     Ok(found)
 }

@@ -129,7 +129,7 @@ fn an_engine(rt: HostRuntime) -> Result<()> {
 fn a_search(rt: HostRuntime) -> Result<()> {
     let cart = Cart::from_bytes(rt.alloc(), &image())?;
     let movie = two_hundred_frames(rt.alloc(), &cart)?;
-    let found = shortest_to(rt.alloc(), &movie, 0, 0x7f)?;
+    let found = shortest_to(&rt, rt.alloc(), &movie, 0, 0x7f)?;
     let Found::Best(choices) = found else {
         panic!(rt; "none was found")
     };
