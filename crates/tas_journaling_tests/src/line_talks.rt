@@ -93,12 +93,7 @@ fn talk_at<'a, N: Name, R: Wait + Abort>(
 }
 
 /// The same under a name.
-pub fn talk<R: Wait + Abort>(
-    rt: &R,
-    alloc: Global,
-    means: Means,
-    input: &mut Giver<'_>,
-) -> Talked
+pub fn talk<R: Wait + Abort>(rt: &R, alloc: Global, means: Means, input: &mut Giver<'_>) -> Talked
     requires { 1 ≤ means.growth }
 {
     let heap = Refusing::new(alloc, u64::MAX);

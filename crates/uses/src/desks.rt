@@ -54,15 +54,7 @@ pub fn talk_noted<N: Name, W: CloseOnDrop, R: Wait, J: JournalFile>(
     let mut journal = Journal::begin(alloc, file, &Movie::blank(alloc)?, 0)?; // the journal's head
     let mut lines = b"insert 0 1 R.... ..... .....\nquit\n".as_slice();
     let mut out = Vec::new(alloc);
-    converse_noted(
-        rt,
-        alloc,
-        desk,
-        seat,
-        &mut journal,
-        &mut lines,
-        &mut out,
-    )?;
+    converse_noted(rt, alloc, desk, seat, &mut journal, &mut lines, &mut out)?;
     Ok((out, journal.into_file())) // edit 1 len 1, and the line 0 0 insert 0 1 R.... ..... .....
 }
 
