@@ -1,9 +1,7 @@
 -- Searches and recoveries, and the ends of tasks that are one.
-use Rattle.std.proofs.Common.{◌≡◌, ◌⊎◌, ℕ, List, Option, None, Some, Result, Ok, Err, inl, inr, length, refl, sym, ap, subst, arith}
+use Rattle.std.proofs.Common.{◌≡◌, ◌⊎◌, ℕ, List, Option, None, Some, Result, Ok, Err, inl, inr, refl, sym, ap, subst}
 use Rattle.std.specs.Borrow.{Bor}
 use Rattle.std.specs.Io.KnownBytes.{Appends}
-use Rattle.std.proofs.KnownBytes.{Appends-nil}
-use Rattle.std.proofs.lemmas.List.{take_all}
 use Rattle.tas_engines.specs.declared.fault.RunFault.{RunFault}
 use Rattle.tas_engines.specs.Output.{StopsWriting}
 use Rattle.tas_engines.specs.declared.fault.ReadFault.TheVariants.{Failed, Memory}
@@ -11,7 +9,7 @@ use Rattle.tas_engines.specs.declared.fault.ToolFault.{ToolFault}
 use Rattle.tas_engines.specs.declared.fault.ToolFault.TheVariants.{Read}
 use Rattle.tas_search.specs.declared.search_error.SearchError.{SearchError}
 use Rattle.tas_search.specs.declared.search_request.Search.{Search as Asked}
-use Rattle.tas_search.specs.Logs.{LogBytes, Logged, LoggedPart, log_bytes}
+use Rattle.tas_search.specs.Logs.{LogBytes, Logged, log_bytes}
 use Rattle.tas_search.specs.SearchRun.{IsSearchRunOn}
 use Rattle.tas_words.specs.declared.task.SearchWords.{SearchWords}
 use Rattle.tas_words.specs.declared.task.Task.{Task}
@@ -30,7 +28,7 @@ use Rattle.tas_program.specs.Reporting.{ReportedEnds, reported_of}
 use Rattle.tas_program.specs.Files.{FileBytes}
 use Rattle.tas_program.specs.Program.{DoesTask, EngineEnds, tool_end}
 use Rattle.tas_program.specs.Saving.{FileSteps, unknown_steps}
-use Rattle.tas_program.specs.Searching.{IsReportFile, Reports, ReportsVerdict, RunsSearch, Searches, SearchesOver, bytes_end, search_end, search_files}
+use Rattle.tas_program.specs.Searching.{BreaksOff, IsReportFile, Reports, ReportsVerdict, RunsSearch, Searches, SearchesOver, bytes_end, search_end, search_files}
 use Rattle.tas_program.specs.Streams.{StreamBytes}
 
 -- the same end of a run, its verdict as bytes
@@ -130,14 +128,9 @@ no_save_fault files (Some (reported.Recovery words)) chosen old new fault (told,
 pub verdict_logged : (told told' held held' : Option (List ℕ)) (verdict : List ℕ) → Appends held held' verdict → Appends told told' verdict → Logged (log_bytes told held) (log_bytes told' held') verdict
 verdict_logged told told' held held' verdict a b = record { errors = b; report = a }
 
-pub verdict_cut : (told held held' : Option (List ℕ)) (verdict : List ℕ) (fault : RunFault) → StopsWriting held held' verdict fault → LoggedPart (log_bytes told held) (log_bytes told held') verdict
-verdict_cut told held held' verdict fault stops = record { shown = 0; kept = stops.written; errors = Appends-nil told; report = stops.cut.front }
+pub verdict_cut : (told held held' : Option (List ℕ)) (verdict : List ℕ) (fault : RunFault) → StopsWriting held held' verdict fault → BreaksOff (log_bytes told held) (log_bytes told held') verdict (Err (Report fault))
+verdict_cut told held held' verdict fault stops = record { fault = fault; is = refl; stops = inl (stops, refl) }
 
 pub verdict_cut_later : (told told' held held' : Option (List ℕ)) (verdict : List ℕ) (fault : RunFault) → Appends held held' verdict → StopsWriting told told' verdict fault
-    → LoggedPart (log_bytes told held) (log_bytes told' held') verdict
-verdict_cut_later told told' held held' verdict fault kept stops = record {
-  shown = stops.written;
-  kept = length verdict;
-  errors = stops.cut.front;
-  report = subst (Appends held held') (sym (take_all (length verdict) verdict (omega arith))) kept;
-}
+    → BreaksOff (log_bytes told held) (log_bytes told' held') verdict (Err (Report fault))
+verdict_cut_later told told' held held' verdict fault kept stops = record { fault = fault; is = refl; stops = inr (kept, stops) }

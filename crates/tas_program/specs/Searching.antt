@@ -8,7 +8,7 @@ use Rattle.tas_engines.specs.declared.fault.ReadFault.TheVariants.{Failed, Memor
 use Rattle.tas_engines.specs.Output.{StopsWriting}
 use Rattle.tas_search.specs.declared.search_error.SearchError.{SearchError}
 use Rattle.tas_search.specs.declared.search_request.Search.{Search as Asked}
-use Rattle.tas_search.specs.Logs.{LogBytes, Logged, LoggedPart, log_bytes}
+use Rattle.tas_search.specs.Logs.{LogBytes, Logged, log_bytes}
 use Rattle.tas_search.specs.SearchRun.{IsSearchRun}
 use Rattle.tas_words.specs.declared.task.SearchWords.{SearchWords}
 use Rattle.tas_program.specs.declared.status.TaskFault.{TaskFault}
@@ -67,14 +67,14 @@ abbrev pub Reports : Result (List ℕ) TaskFault → (told told' : Option (List 
 Reports (Ok report) told told' end = ((end ≡ Ok tt) × Appends told told' report) ⊎ ((fault : RunFault) × (end ≡ Err (Report fault)) × StopsWriting told told' report fault)
 Reports (Err fault) told told' end = (end ≡ Err fault) × Keeps told told'
 
--- a write of the verdict failed: both writers have a beginning of it
+-- a write of the verdict failed: that to the report's other writer, and standard error has nothing of it; or that to standard error, and the other has it whole
 pub record BreaksOff (logs logs' : LogBytes) (verdict : List ℕ) (end : Result (Unit {0}) TaskFault) : Type 0 where
   pub fault : RunFault
   pub is : end ≡ Err (Report fault)
-  pub part : LoggedPart logs logs' verdict
+  pub stops : (StopsWriting logs.report logs'.report verdict fault × (logs'.errors ≡ logs.errors)) ⊎ (Appends logs.report logs'.report verdict × StopsWriting logs.errors logs'.errors verdict fault)
 
--- what a search reports at its end: the verdict, whole, to both writers; or a beginning of it, and this is the fault; or nothing, where the search
--- ended with one
+-- what a search reports at its end: the verdict, whole, to both writers; or less of it, where a write failed, and this is the fault; or nothing, where
+-- the search ended with one
 abbrev pub ReportsVerdict : Result (List ℕ) TaskFault → (logs logs' : LogBytes) → Result (Unit {0}) TaskFault → Type 0
 ReportsVerdict (Ok verdict) logs logs' end = ((end ≡ Ok tt) × Logged logs logs' verdict) ⊎ BreaksOff logs logs' verdict end
 ReportsVerdict (Err fault) logs logs' end = (end ≡ Err fault) × (logs' ≡ logs)

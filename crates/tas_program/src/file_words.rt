@@ -314,7 +314,8 @@ fn fault_among(seen: &[SeenWord; WORDS]) -> Option<WordFault>
 
 /// Looks at the files that a task's words name, before any is opened. Reports the first word that names the ordinary file of an earlier
 /// word, or that is an OUT and names an ordinary file with bytes. Standard input and output count as words after those of the command
-/// line. Only the words of [`Task::Talk`] and [`Task::Desk`] are looked at: other tasks read their inputs whole before they write.
+/// line. Only the words of [`Task::Talk`] and [`Task::Desk`] are looked at: other tasks read their inputs whole before they write, and the
+/// report of a search goes to a new file.
 pub fn check_words<F: Folder>(folder: &F, task: Task<'_>) -> Result<Permit, WordFault>
     // A permit to open files for writing is given where no word is at fault.
     // Refused: words_at_fault_are_run, right_words_are_at_fault.

@@ -304,7 +304,7 @@ pub fn run_task<
     streams: &mut Streams<R, W, E>,
 ) -> Result<(), TaskFault>
     // A command is done by its engine, over its files and standard input, with its own numbers, but for an export's
-    // WORKERS, on which no answer depends. That the verdict of a search is written is a clause of `run_search` alone,
+    // WORKERS, on which no answer depends. That the report of a search is written is a clause of `run_search` alone,
     // and that the report of a recovery is one of `run_recovery`.
     // Refused: check_draws_the_first_frame*, each_file_is_the_first, migration_is_answered_as_check*,
     // talk_is_run_as_a_script*, shot_of_the_frame_before, script_and_cartridge_are_swapped*,

@@ -1,10 +1,11 @@
 //! Searches, and the tasks that report to standard error as they do.
 //!
 //! A search's answer has two parts: the script goes to standard output, so that it can go on to a file or to `tas edit`, and the report
-//! to standard error, where somebody sees it beside: a line for each layer as it is searched, and then the verdict. It alone says of which
+//! to standard error, where it can be read meanwhile: a line for each layer as it is searched, and then the verdict. It alone says of which
 //! sequences the script is the best. So a search whose report can't be written ends with a fault, while the line of a fault that can't be
-//! written changes nothing. With `--report` a new file gets the same lines as they are made: what a signal leaves of it is whole lines. The file
-//! must be new, so nothing that is there is written over, and it is none that another word or stream stands for.
+//! written changes nothing. With `--report` a new file gets the same lines as they are made: after a signal it has whole lines. The file
+//! must be new, so nothing that is there is written over. It is made before the others are opened: where it is also the name of another word,
+//! whose file is missing, that is read as an empty file.
 
 ghost use Rattle.std.specs.Prelude.{◌≡◌, ◌⊎◌, map, IfOk, IfErr};
 ghost use Rattle.tas_program.specs.Files.{files_by};
@@ -27,7 +28,7 @@ use tas_words::{RecoveryWords, SearchWords, Task};
 /// The words of a task that reports to standard error beside its output.
 #[derive(Clone, Copy)]
 pub(crate) enum Reported<'a> {
-    /// A search, which reports its verdict.
+    /// A search, which reports its layers and its verdict.
     Search(SearchWords<'a>),
     /// A recovery, which reports how many edits were made.
     Recovery(RecoveryWords<'a>),

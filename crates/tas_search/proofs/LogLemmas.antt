@@ -1,8 +1,5 @@
 -- Lines of a report, one after the other.
-use Rattle.std.proofs.Common.{ℕ, ◌+◌, List, [], ◌++◌, length, take, sym, subst, arith}
-use Rattle.std.proofs.lemmas.List.{take_all}
-use Rattle.std.proofs.Math.Seq.{take-append-add}
-use Rattle.std.specs.Io.KnownBytes.{Appends}
+use Rattle.std.proofs.Common.{ℕ, List, [], ◌++◌}
 use Rattle.std.proofs.KnownBytes.{Appends-nil, Appends-trans}
 use Rattle.std.specs.Prelude.{Result, Ok, Err, OnErr}
 use Rattle.tas_search.specs.Logs.{LogBytes, Logged, LoggedPart}
@@ -18,23 +15,6 @@ logged_more old mid new front back a b = record {
 
 pub part_none : (old : LogBytes) (text : List ℕ) → LoggedPart old old text
 part_none old text = record { shown = 0; kept = 0; errors = Appends-nil old.errors; report = Appends-nil old.report }
-
-pub part_whole : (old new : LogBytes) (text : List ℕ) → Logged old new text → LoggedPart old new text
-part_whole old new text h = record {
-  shown = length text;
-  kept = length text;
-  errors = subst (Appends old.errors new.errors) (sym (take_all (length text) text (omega arith))) h.errors;
-  report = subst (Appends old.report new.report) (sym (take_all (length text) text (omega arith))) h.report;
-}
-
--- the first line whole, and of the next one a beginning
-pub part_more : (old mid new : LogBytes) (front back : List ℕ) → Logged old mid front → LoggedPart mid new back → LoggedPart old new (front ++ back)
-part_more old mid new front back a b = record {
-  shown = length front + b.shown;
-  kept = length front + b.kept;
-  errors = subst (Appends old.errors new.errors) (sym (take-append-add front back b.shown)) (Appends-trans old.errors mid.errors new.errors front (take b.shown back) a.errors b.errors);
-  report = subst (Appends old.report new.report) (sym (take-append-add front back b.kept)) (Appends-trans old.report mid.report new.report front (take b.kept back) a.report b.report);
-}
 
 -- a fact that stands whatever the error
 pub on_err : {T E : Type 0} (r : Result T E) (P : Type 0) → P → OnErr r P

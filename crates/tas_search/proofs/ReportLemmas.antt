@@ -10,7 +10,7 @@ use Rattle.tas_search.specs.LayerLines.{state_count, layer_line, layer_lines}
 use Rattle.tas_search.specs.Logs.{LogBytes, Logged, LoggedPart}
 use Rattle.tas_search.specs.Reported.{IsReported, StopsReporting}
 use Rattle.tas_search.specs.Inside.Arrivals.{no_step, path}
-use Rattle.tas_search.proofs.LogLemmas.{nothing_logged, logged_more, part_none, part_whole, part_more}
+use Rattle.tas_search.proofs.LogLemmas.{nothing_logged, logged_more, part_none}
 
 pub path_length : (parents : List Step) (d : ℕ) (step : Step) → length (path parents d step) ≡ d
 path_length parents zero step = refl
@@ -47,18 +47,20 @@ lines_more s d e old mid new same front more =
 
 pub lines_cut : (s : SpaceContent) (d e : ℕ) (old mid new : LogBytes) → e ≡ d → Logged old mid (layer_lines s d) → LoggedPart mid new (layer_line s (e + 1)) → StopsReporting s old new
 lines_cut s d e old mid new same front more = record {
-  layers = suc d;
-  part = part_more old mid new (layer_lines s d) (layer_line s (suc d)) front (subst (λ (n : ℕ). LoggedPart mid new (layer_line s n)) (ap (λ (n : ℕ). n + 1) same ∙ next d) more);
+  layers = d;
+  mid = mid;
+  whole = front;
+  part = subst (λ (n : ℕ). LoggedPart mid new (layer_line s n)) (ap (λ (n : ℕ). n + 1) same ∙ next d) more;
 }
   where
     next : (d : ℕ) → d + 1 ≡ suc d
     next d = omega arith
 
 pub lines_whole : (s : SpaceContent) (d : ℕ) (old new : LogBytes) → Logged old new (layer_lines s d) → StopsReporting s old new
-lines_whole s d old new h = record { layers = d; part = part_whole old new (layer_lines s d) h }
+lines_whole s d old new h = record { layers = d; mid = new; whole = h; part = part_none new (layer_line s (suc d)) }
 
 pub lines_none : (s : SpaceContent) (old : LogBytes) → StopsReporting s old old
-lines_none s old = record { layers = 0; part = part_none old [] }
+lines_none s old = record { layers = 0; mid = old; whole = nothing_logged old; part = part_none old (layer_line s 1) }
 
 -- ---- ends
 

@@ -52,7 +52,7 @@ pub struct SearchBytes<'a> {
 pub struct SearchText {
     /// The script for `tas edit` that writes the best sequence into the movie; nothing where there is no such sequence.
     pub script: Vec<u8>,
-    /// The report: the verdict's line.
+    /// The verdict, a line.
     pub report: Vec<u8>,
 }
 

@@ -42,7 +42,7 @@ fn choices_after<C: Allocator>(space: &Space<'_, C>, layer: &[Arrival]) -> Resul
 }
 
 /// The numbers of a layer that has this many states, for which this many choices were played from the layer before. A number that no
-/// word of the machine holds is reported as out of memory: no search lives to see it.
+/// word of the machine holds is reported as out of memory; no search gets that far.
 pub(crate) fn count_layer<C: Allocator>(
     space: &Space<'_, C>,
     before: &[Arrival],

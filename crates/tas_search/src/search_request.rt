@@ -32,6 +32,7 @@ pub(crate) fn range_of(search: &Search<'_>) -> Option<SearchRange>
     // Refused: frames_left_over_are_dropped.
     ensures some { IfSome result
         (IsRangeOf search.now.from search.now.frames search.now.hold search.now.states) }
+    ensures workers { IfSome result (λ range. range.workers ≡ search.now.workers) }
     ensures none { IfNone result (Divides search.now.hold search.now.frames → ⊥) }
 {
     if search.hold == 0 {

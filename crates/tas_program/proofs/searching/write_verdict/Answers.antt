@@ -8,9 +8,5 @@ returns-in-Err g c = rw c.in-Err.is (refl, refl)
 
 pub returns-in-Err-write_all : goal.returns-in-Err-write_all
 returns-in-Err-write_all g c =
-    rw c.in-Ok.is (inr (record {
-      fault = c.in-Err-write_all.fault;
-      is = refl;
-      part = verdict_cut (g.E.Write.contents c.args.errors.now) (g.P.Write.contents c.args.report.now) (g.P.Write.contents c.write_all.new.writer) c.in-Ok.verdict.items c.in-Err-write_all.fault
-          (subst (λ (l : List ℕ). StopsWriting (g.P.Write.contents c.args.report.now) (g.P.Write.contents c.write_all.new.writer) l c.in-Err-write_all.fault) c.as_slice.ensures.value c.in-Err-write_all.ensures.fault);
-    }))
+    rw c.in-Ok.is (inr (verdict_cut (g.E.Write.contents c.args.errors.now) (g.P.Write.contents c.args.report.now) (g.P.Write.contents c.write_all.new.writer) c.in-Ok.verdict.items c.in-Err-write_all.fault
+    (subst (λ (l : List ℕ). StopsWriting (g.P.Write.contents c.args.report.now) (g.P.Write.contents c.write_all.new.writer) l c.in-Err-write_all.fault) c.as_slice.ensures.value c.in-Err-write_all.ensures.fault)))
