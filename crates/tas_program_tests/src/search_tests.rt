@@ -347,8 +347,9 @@ fn script_that_cannot_be_written_is_a_fault(rt: HostRuntime) {
         &mut room.as_mut_slice(),
         &mut errors,
     );
-    let line = b"fault: write failed after 10 bytes\n".as_slice();
-    check_same(&rt, "end", (code, errors.as_slice()), (1, line));
+    let lines =
+        b"layer 1: 1 frames, 3 states, 15 merged, 18 played\nfault: write failed after 10 bytes\n".as_slice();
+    check_same(&rt, "end", (code, errors.as_slice()), (1, lines));
     let first = b"replace 3 ".as_slice();
     check_same(&rt, "script", room.as_slice(), first);
 }
