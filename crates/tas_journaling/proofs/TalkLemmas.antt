@@ -1,5 +1,5 @@
 -- Conversations with a journal, line by line.
-use Rattle.std.proofs.Common.{◌≡◌, ℕ, ◌+◌, ◌-◌, ◌<◌, ◌≤◌, List, [], ◌∷◌, ◌++◌, length, take, Bool, Option, Some, None, Result, Ok, Err, ◌⊎◌, inl, inr, refl, sym, ap, subst, ◌∙◌, arith, append_assoc, length-append, append-nil}
+use Rattle.std.proofs.Common.{◌≡◌, ℕ, ◌+◌, List, [], ◌∷◌, ◌++◌, length, take, Option, Some, None, Result, Ok, Err, inl, inr, refl, sym, ap, subst, ◌∙◌, arith, append_assoc, length-append, append-nil}
 use Rattle.std.specs.Prelude.{min, OnOk, IfOk, IfErr}
 use Rattle.std.specs.Io.KnownBytes.{Appends, Consumes, Keeps, IsAtEnd}
 use Rattle.std.proofs.KnownBytes.{Appends-nil, Appends-trans, Consumes-nil, Consumes-trans, Consumes-kept}
@@ -19,15 +19,13 @@ use Rattle.tas_engines.specs.declared.fault.ToolFault.{ToolFault}
 use Rattle.tas_engines.specs.declared.fault.ToolFault.TheVariants.{Read, Run, Seat}
 use Rattle.tas_engines.specs.declared.fault.ReadFault.TheVariants.{Failed}
 use Rattle.tas_language.specs.declared.request.Request.{Request}
-use Rattle.tas_language.specs.declared.request.Request.TheVariants.{Quit}
 use Rattle.tas_language.specs.Requests.{IsHeard}
 use Rattle.tas_language.specs.Answers.{unknown_text}
-use Rattle.tas_language.specs.Held.{HoldsLine}
 use Rattle.tas_seat.specs.Conversations.{TalkingSeat, talking, IsTalkAnswered}
 use Rattle.tas_seat.specs.Drafts.{DraftContent}
-use Rattle.tas_seat.specs.Outcomes.{HasTalkAnswer, HasNoTalkAnswer, IsLook}
+use Rattle.tas_seat.specs.Outcomes.{HasNoTalkAnswer, IsLook}
 use Rattle.tas_seat.specs.Talk.{Exchange, IsExchange, AreExchanges, IsQuit, IsCarriedOut, IsAnswerCutOff, TalkEnds, lines_of, answers_of, last_answer, most_counted}
-use Rattle.tas_seat.specs.Inside.Talking.{CutsOff, Breaks, IsLineTurn}
+use Rattle.tas_seat.specs.Inside.Talking.{Breaks}
 use Rattle.tas_seat.proofs.TalkLemmas.{known_line, known_cut, line_fault, unknown_line, unknown_cut, left_as, not_looked}
 use Rattle.tas_seat.proofs.HistoryLemmas.{line_leaves, rested, Rested}
 use Rattle.tas_journaling.specs.declared.journal.JournalFault.{JournalFault}
@@ -36,10 +34,10 @@ use Rattle.tas_journaling.specs.declared.answering.AnswerFault.{AnswerFault}
 use Rattle.tas_journaling.specs.declared.answering.AnswerFault.TheVariants as answer
 use Rattle.tas_journaling.specs.declared.talking.TalkFault.{TalkFault}
 use Rattle.tas_journaling.specs.declared.talking.TalkFault.TheVariants.{Tool, Journal}
-use Rattle.tas_journaling.specs.Journals.{JournalContent, IsNoted, HasAll, IsCutShort}
-use Rattle.tas_journaling.specs.Answers.{IsAnsweredAndShown, KeepsUp, FallsShort, IsNotedAnswer}
+use Rattle.tas_journaling.specs.Journals.{JournalContent, IsNoted, HasAll}
+use Rattle.tas_journaling.specs.Answers.{KeepsUp, FallsShort, IsNotedAnswer}
 use Rattle.tas_journaling.specs.Talks.{Ways, AreShown, NotedEnds, JournalEnds, IsNotedTalk}
-use Rattle.tas_journaling.specs.Inside.{counted_fault, KeepsAll, NotedBreaks, BreaksJournal, IsBroken, IsNotedTurn, IsUnderway}
+use Rattle.tas_journaling.specs.Inside.{counted_fault, KeepsAll, BreaksJournal, IsBroken, IsNotedTurn, IsUnderway}
 use Rattle.tas_journaling.proofs.NoteLemmas.{keeps_same, noted_on}
 
 -- ---- journals

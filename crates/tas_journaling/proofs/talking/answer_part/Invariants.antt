@@ -1,4 +1,4 @@
-use Rattle.std.proofs.Common.{◌≡◌, ℕ, ◌++◌, List, Option, length}
+use Rattle.std.proofs.Common.{ℕ, ◌++◌, List, Option, length}
 use Rattle.byte_text.specs.Splitting.{NoByte}
 use Rattle.tas_desk.specs.Seats.{SeatContent}
 use Rattle.tas_language.specs.Held.{HoldsLine}
