@@ -1,5 +1,7 @@
 //! What the journal of a conversation has when something fails, and what is recovered from it.
 
+ghost use Rattle.std.specs.Prelude.{◌≤◌};
+
 use crate::checks::{check_same, check_that, expect_ok, expect_some};
 use crate::line_talks::{Talked, lines, talk};
 use crate::talks::{
