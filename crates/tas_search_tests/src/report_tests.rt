@@ -10,7 +10,7 @@ use tas_search::{Limits, Space, Unfinished, find_shortest};
 use test_streams::{Failure, Room, Taker};
 use vcs_machine::{Input, State};
 
-/// What both writers get of a search from power-on for a number that no sequence reaches, and how many choices the answer has.
+/// What both writers get of a search from power-on for a number that no sequence reaches.
 fn lines<R: Abort + Threads + Sync>(
     rt: &R,
     alloc: Global,
