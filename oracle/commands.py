@@ -24,8 +24,8 @@ FORMS = {
     "check": "c", "migrate": "c", "edit": "cf", "cut": "cnn", "diff": "cm", "script": "", "talk": "|cm", "shot": "cn", "film": "c|nn", "export": "cnnw", "ram": "cnn",
     "digest": "c|e", "compare": "cm", "lag": "c", "trace": "t", "new": "cl", "recover": "c", "search": "cnlg", "desk": "cmff|ffffffffffffff"}
 NUMBERS = {"n": (0, 9999999), "w": (1, 16), "e": (1, MOST), "l": (0, MOST), "s": (1, 9999999), "t": (0, 1000000), "j": (1, 4294967295)}
-FLAGS = {"edit": ("--with",), "recover": ("--until",), "search": ("--choices", "--names", "--hold", "--most"), "script": ("--cart", "--movie")}
-FLAG_NUMBERS = {"--hold": "e", "--most": "s", "--until": "j"}
+FLAGS = {"edit": ("--with",), "recover": ("--until",), "search": ("--choices", "--names", "--hold", "--most", "--workers"), "script": ("--cart", "--movie")}
+FLAG_NUMBERS = {"--hold": "e", "--most": "s", "--workers": "w", "--until": "j"}
 NUMBER = re.compile(r"\+?0*([0-9]{1,10})")
 
 Wanted = namedtuple("Wanted", "output errors status")  # nothing stands for a text for people
@@ -123,6 +123,7 @@ class Run:
 
     def __init__(self, files, stream, seen, most_searched=20):
         self.inputs, self.seen, self.most_searched = Inputs(files, stream), seen, most_searched
+        self.space = None  # of a search
 
     def wanted(self, words):
         """What must come of these words."""
@@ -189,8 +190,8 @@ class Run:
         self.seen["recover: a cut line"] += "cut" in report
         return hands.movie_text(cart, frames)
 
-    def search(self, cart, start, frames, goal, choices=None, names=None, hold=1, most=MOST_STATES):
-        """The script; the verdict goes to standard error."""
+    def search(self, cart, start, frames, goal, choices=None, names=None, hold=1, most=MOST_STATES, **_workers):
+        """The script; the verdict goes to standard error, after the lines of the layers."""
         cart, *texts, movie = self.inputs.read([cart] + [name for name in (choices, names) if name is not None])
         movie = readings.read_movie(movie, sized(cart))
         choices = searches.STICK if choices is None else searches.read_choices(texts[0])
@@ -206,6 +207,7 @@ class Run:
             raise Open("too many frames for this comparison")
         space = searches.space_of(cart, tuple(movie[:start]), tuple(choices), count, hold)
         verdict, sequence = searches.answer(space, goal, most)
+        self.space = space
         self.errors = (verdict + "\n").encode()
         return b"" if sequence is None else searches.script_of(sequence, space, start, len(movie))
 

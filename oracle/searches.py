@@ -227,6 +227,44 @@ def space_of(cartridge, inputs, choices, count, hold):
     return Space(cartridge, inputs, choices, count, hold)
 
 
+# ---- the lines of layers
+
+LAYER = re.compile(rb"layer (\d+): (\d+) frames, (\d+) states, (\d+) merged, (\d+) played\n")
+
+
+def last_layer(space, wanted):
+    """The number of the last layer that has a line in the report."""
+    verdict = wanted.errors.decode()
+    if verdict.startswith("best"):
+        return wanted.output.count(b"replace")
+    if verdict.startswith("stopped"):
+        return int(verdict.split("layer ")[1].split(":")[0]) - 1
+    return next((number for number, layer in enumerate(space.layers) if not layer), space.count)
+
+
+def is_line(space, number, frames, states, merged, played):
+    """Whether these can be the numbers of a layer: which bits of a register belong to a state is left open."""
+    going = [one for one in space.layers[number - 1] if not one.is_halted]
+    (least, greatest), choices = bounds(going), len(space.choices)
+    led, tried = divmod(merged + states, choices), divmod(played, space.hold)
+    return (frames == number * space.hold and space.sizes[number][0] <= states <= space.sizes[number][1] and led[1] == tried[1] == 0
+            and least <= led[0] <= greatest and led[0] <= tried[0] <= led[0] * choices)
+
+
+def after_layers(errors, space, wanted):
+    """What standard error has after the lines of layers, where there was a search; these lines too, where they aren't the page's."""
+    if space is None:
+        return errors
+    left, number, last = errors, 0, last_layer(space, wanted)
+    while line := LAYER.match(left):
+        number += 1
+        layer, *numbers = map(int, line.groups())
+        if layer != number or number > last or not is_line(space, number, *numbers):
+            return errors
+        left = left[line.end():]
+    return left if number == last else errors
+
+
 def frames_of(start, choices, count, hold):
     """How many frames are played at most."""
     return start + hold * sum(choices ** length for length in range(1, count + 1))
