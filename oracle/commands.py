@@ -4,12 +4,13 @@ Written from docs/FORMATS.md alone. Texts are read by readings.py. What only ano
 """
 
 import re
-from collections import namedtuple
+from collections import Counter, namedtuple
 from hashlib import sha256
 
 import drafts
 import journals
 import machine
+import manifests
 import readings
 import searches
 from answers import hands
@@ -22,11 +23,12 @@ MOST_STATES = 100000  # of a layer of a search, without --most
 # The words after each command: a cartridge, a file, a movie's file, a goal, a number; those after the bar may be missing. And the most that each number may be.
 FORMS = {
     "check": "c", "migrate": "c", "edit": "cf", "cut": "cnn", "diff": "cm", "script": "", "talk": "|cm", "shot": "cn", "film": "c|nn", "export": "cnnw", "ram": "cnn",
-    "digest": "c|e", "compare": "cm", "lag": "c", "trace": "t", "new": "cl", "recover": "c", "search": "cnlg", "desk": "cmff|ffffffffffffff"}
+    "digest": "c|e", "compare": "cm", "lag": "c", "trace": "t", "new": "cl", "recover": "c", "search": "cnlg", "verify": "", "desk": "cmff|ffffffffffffff"}
 NUMBERS = {"n": (0, 9999999), "w": (1, 16), "e": (1, MOST), "l": (0, MOST), "s": (1, 9999999), "t": (0, 1000000), "j": (1, 4294967295)}
-FLAGS = {"edit": ("--with",), "recover": ("--until",), "search": ("--choices", "--names", "--hold", "--most", "--workers"), "script": ("--cart", "--movie")}
+FLAGS = {"edit": ("--with",), "talk": ("--journal",), "recover": ("--until",), "search": ("--choices", "--names", "--hold", "--first", "--most", "--workers"), "verify": ("--carts", "--workers"), "script": ("--cart", "--movie")}
 FLAG_NUMBERS = {"--hold": "e", "--most": "s", "--workers": "w", "--until": "j"}
 NUMBER = re.compile(r"\+?0*([0-9]{1,10})")
+PART, MOST_PARTS = re.compile(r"([1-9][0-9]{0,6})/([1-9][0-9]{0,6})"), 1000000
 
 Wanted = namedtuple("Wanted", "output errors status")  # nothing stands for a text for people
 NOT_TEXT = Wanted(b"", b"error: the words aren't all text\n", 2)
@@ -45,6 +47,22 @@ def number_of(word, kind):
     if not match or not NUMBERS[kind][0] <= int(match.group(1)) <= NUMBERS[kind][1]:
         raise Wrong
     return int(match.group(1))
+
+
+def part_of(word):
+    """The number of a part, and how many parts there are."""
+    match = PART.fullmatch(word)
+    number, parts = (int(digits) for digits in match.groups()) if match else (1, 0)
+    if not number <= parts <= MOST_PARTS:
+        raise Wrong
+    return number, parts
+
+
+def value_of(flag, word):
+    """What a word after a flag gives."""
+    if flag == "--first":
+        return part_of(word)
+    return number_of(word, FLAG_NUMBERS[flag]) if flag in FLAG_NUMBERS else word
 
 
 def is_flag(word):
@@ -79,7 +97,7 @@ def given(command, words):
         raise Wrong
     if command == "script" and len(flagged) == 1:
         raise Open("`tas script` with one of its flags alone")
-    flagged = {flag: number_of(word, FLAG_NUMBERS[flag]) if flag in FLAG_NUMBERS else word for flag, word in flagged.items()}
+    flagged = {flag: value_of(flag, word) for flag, word in flagged.items()}
     return [(kind, number_of(word, kind) if kind in NUMBERS else word) for kind, word in zip(form, plain)], flagged
 
 
@@ -124,6 +142,7 @@ class Run:
     def __init__(self, files, stream, seen, most_searched=20):
         self.inputs, self.seen, self.most_searched = Inputs(files, stream), seen, most_searched
         self.space = None  # of a search
+        self.journal = None  # of a conversation
 
     def wanted(self, words):
         """What must come of these words."""
@@ -190,7 +209,7 @@ class Run:
         self.seen["recover: a cut line"] += "cut" in report
         return hands.movie_text(cart, frames)
 
-    def search(self, cart, start, frames, goal, choices=None, names=None, hold=1, most=MOST_STATES, **_workers):
+    def search(self, cart, start, frames, goal, choices=None, names=None, hold=1, first=searches.WHOLE, most=MOST_STATES, **_workers):
         """The script; the verdict goes to standard error, after the lines of the layers."""
         cart, *texts, movie = self.inputs.read([cart] + [name for name in (choices, names) if name is not None])
         movie = readings.read_movie(movie, sized(cart))
@@ -203,13 +222,61 @@ class Run:
         if start + frames > MOST:
             raise hands.Fault("movie gets too long")
         count = frames // hold
-        if count > searches.MOST_CHOICES or searches.frames_of(start, len(choices), count, hold) > self.most_searched:
+        if count > searches.MOST_CHOICES or searches.frames_of(start, len(choices), count, hold, first) > self.most_searched:
             raise Open("too many frames for this comparison")
-        space = searches.space_of(cart, tuple(movie[:start]), tuple(choices), count, hold)
+        space = searches.space_of(cart, tuple(movie[:start]), tuple(choices), count, hold, first)
         verdict, sequence = searches.answer(space, goal, most)
         self.space = space
         self.errors = (verdict + "\n").encode()
         return b"" if sequence is None else searches.script_of(sequence, space, start, len(movie))
+
+    def verify(self, carts=None, **_workers):
+        """A line for each movie of a manifest, and one that counts."""
+        if carts is not None and carts != "." and "/" in carts:
+            raise Open("a path")
+        if carts not in (None, "."):
+            raise hands.Fault("carts: read failed")
+        if len(self.inputs.stream) > MOST_BYTES:
+            raise hands.Fault("manifest: input is too long")
+        rows = manifests.rows_of(self.inputs.stream)
+        said = [self.verified(carts is not None, *row) for row in rows]
+        good = said.count("ok")
+        self.output = b"".join(row[0] + b": " + one.encode() + b"\n" for row, one in zip(rows, said)) + b"%d of %d ok\n" % (good, len(rows))
+        for one in said:
+            self.seen["verify: " + re.sub(r"halted.*", "halted", re.sub(r"\d+", "N", one))] += 1
+        if good < len(rows):
+            raise hands.Fault("not all movies are ok")
+        return self.output
+
+    def opened(self, word, role):
+        """The bytes of a manifest's file."""
+        name = word.decode("utf-8", "replace")
+        if "/" in name:
+            raise Open("a path")
+        if name not in self.inputs.files:
+            raise hands.Fault(role + " not found")
+        if len(self.inputs.files[name]) > MOST_BYTES:
+            raise hands.Fault(role + ": input is too long")
+        return self.inputs.files[name]
+
+    def found_cart(self, word, has_carts):
+        """The bytes of the cartridge that is named by its file or by its SHA-256."""
+        if not manifests.SHA256.fullmatch(word):
+            return self.opened(word, "cartridge")
+        for image in self.inputs.files.values() if has_carts else ():
+            if len(image) in (2048, 4096) and sha256(image).hexdigest().encode() == word:
+                return image
+        raise hands.Fault("cartridge not found")
+
+    def verified(self, has_carts, movie, cart, digest):
+        """What a movie's line says."""
+        try:
+            text, image, stored = self.opened(movie, "movie"), self.found_cart(cart, has_carts), self.opened(digest, "digest")
+            every = manifests.every_of(stored)
+            now = Run({"cart": image}, text, Counter()).digest("cart", every)
+        except hands.Fault as fault:
+            return str(fault)
+        return manifests.compared(now, stored, every)
 
     def edit(self, cart, script, **flagged):
         others = [flagged["with"]] if flagged else []
@@ -239,12 +306,19 @@ class Run:
             raise hands.Fault(fault)
         return self.output
 
-    def talk(self, cart=None, movie=None):
-        if cart is None:
-            return readings.conversed(readings.Holder(), self.inputs.stream, self.seen)
-        cart, *old = self.inputs.read([cart] if movie is None else [cart, movie], False)
-        frames = readings.read_movie(old[0], sized(cart)) if old else sized(cart) and []
-        return readings.conversed(readings.Holder(cart, frames), self.inputs.stream, self.seen)
+    def talk(self, cart=None, movie=None, journal=None):
+        if journal is not None and ("/" in journal or journal in self.inputs.files):
+            raise Open("a journal that may be there")
+        holder = readings.Holder()
+        if cart is not None:
+            cart, *old = self.inputs.read([cart] if movie is None else [cart, movie], False)
+            holder = readings.Holder(cart, readings.read_movie(old[0], sized(cart)) if old else sized(cart) and [])
+        first, text = len(holder.edits), hands.movie_text(*holder.main.movie)
+        answers = readings.conversed(holder, self.inputs.stream, self.seen)
+        if journal is not None:
+            self.journal = journals.written(text, holder.edits[first:])
+            self.seen["talk: an edit in a journal"] += len(holder.edits) > first
+        return answers
 
     def desk(self, cart, movie, *pairs):
         """Where no pair is there."""

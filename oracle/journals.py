@@ -1,4 +1,4 @@
-"""Journals: the movie that one makes, and random ones.
+"""Journals: the movie that one makes, the one that a conversation writes, and random ones.
 
 Written from docs/FORMATS.md alone (Journals). Movie texts are read by readings.py.
 """
@@ -6,12 +6,13 @@ Written from docs/FORMATS.md alone (Journals). Movie texts are read by readings.
 import re
 from hashlib import sha256
 
+import machine
 import readings
 import spoiling
 from answers import hands
 
 FORMAT = b"a26journal 1\n"
-PROFILE = b"profile 2\n"  # docs/MACHINE.md
+PROFILE = b"profile %d\n" % machine.PROFILE
 THIRD = re.compile(rb"movie (0|[1-9][0-9]*) ([0-9a-f]{64})\n")
 NUMBER = "(0|[1-9][0-9]{0,6})"
 DELETION = re.compile("delete %s %s" % (NUMBER, NUMBER))
@@ -107,10 +108,23 @@ def recovered(journal, cart, until=None):
     return cart, frames, "recovered: %d edits%s\n" % (len(wanted), "; a last line was cut" if has_cut else "")
 
 
-# ---- random ones
+# ---- of a conversation
 
 def head(text):
     return FORMAT + PROFILE + b"movie %d %s\n" % (len(text), sha256(text).hexdigest().encode()) + text
+
+
+def line_of(number, told):
+    """The line of an edit that a history has in these lines: the first one, and of each further one the count and the frame."""
+    return "%d 0 %s\n" % (number, " ".join(told[:1] + [line.split(" ", 2)[2] for line in told[1:]]))
+
+
+def written(text, edits):
+    """The journal of a conversation that began with this movie and made these edits."""
+    return head(text) + "".join(line_of(number, told) for number, told in enumerate(edits)).encode()
+
+
+# ---- random ones
 
 
 def some_edit(rng, length):

@@ -1,7 +1,7 @@
 """What a search answers: what goals, names files and choices files say, all sequences of a space, and the best of them.
 
-Written from docs/FORMATS.md, "Search" and "Goals of a search", alone. Each sequence is played by quick.py from the state that the sequence before its last choice leaves, and no two are taken
-for one, whatever their states: states are compared only where the page asks how many different ones there are.
+Written from docs/FORMATS.md, "Search" and "Goals of a search", and docs/MACHINE.md, section 6, alone. Each sequence is played by quick.py from the state that the sequence before its last choice
+leaves, and no two are taken for one, whatever their states: states are compared only where the page asks how many different ones there are.
 """
 
 import re
@@ -12,7 +12,6 @@ import beginnings
 import quick
 import tia
 from answers import hands
-from resting import Open
 
 DEEPEST = 64  # parentheses and `not` within one another
 MOST_CHOICES = 1000  # of one sequence, in this comparison
@@ -181,22 +180,41 @@ def read_choices(text):
 
 # ---- all sequences of a space
 
-# What some choices leave: the machine's state, and its RAM. `sequence` has the choices' numbers, from 0 on.
-Reached = namedtuple("Reached", "sequence state ram is_halted")
+WHOLE = (1, 1)  # the only part of one
+
+
+def firsts_of(part, choices):
+    """The numbers of the choices with which the sequences of a part begin, of so many."""
+    number, parts = part
+    return range((number - 1) * choices // parts, number * choices // parts)
+
+
+def number_of(firsts, choices, length):
+    """How many sequences of a length there are, with so many first choices."""
+    return firsts * choices ** (length - 1) if length else 1
+
+
+# What some choices leave: the machine's state, and its RAM. `sequence` has the choices' numbers, from 0 on; `is_lag` is whether all frames of the last one were lag frames.
+Reached = namedtuple("Reached", "sequence state ram is_halted is_lag")
 
 
 class Space:
     """The sequences of a search: after the movie's first frames, each of so many choices, each of which is held for so many frames. A sequence ends where the machine halts."""
 
-    def __init__(self, cartridge, inputs, choices, count, hold):
-        self.cartridge, self.choices, self.count, self.hold = cartridge, choices, count, hold
+    def __init__(self, cartridge, inputs, choices, count, hold, part=WHOLE):
+        self.cartridge, self.choices, self.count, self.hold, self.part = cartridge, choices, count, hold, part
+        self.firsts = firsts_of(part, len(choices))
         self.played = self.lagging = 0
         model = quick.QuickMachine(cartridge)
         model.draws = False
         self.layers = [[self.played_on(model, inputs, ())]]
         for _ in range(count):
-            self.layers.append([self.play(before, choice) for before in self.layers[-1] if not before.is_halted for choice in range(len(choices))])
-        self.sizes = [bounds(layer) for layer in self.layers]
+            self.layers.append([self.play(before, choice) for before in self.layers[-1] if not before.is_halted for choice in self.choices_after(before)])
+        self.sizes = [len(different(layer)) for layer in self.layers]
+
+    def choices_after(self, before):
+        """The numbers of the choices that may come after others."""
+        return range(len(self.choices)) if before.sequence else self.firsts
 
     def play(self, before, choice):
         model = beginnings.machine_in(self.cartridge, before.state)
@@ -204,37 +222,41 @@ class Space:
         return self.played_on(model, [self.choices[choice]] * self.hold, before.sequence + (choice,))
 
     def played_on(self, model, inputs, sequence):
+        is_lag = True
         for text in inputs:
             model.play_frame(text)
             self.lagging += model.is_lag and model.halt is None
+            is_lag = is_lag and model.is_lag
         self.played += len(inputs)
-        return Reached(sequence, beginnings.state_of(model), bytes(model.ram), model.halt is not None)
+        return Reached(sequence, beginnings.state_of(model), bytes(model.ram), model.halt is not None, is_lag)
 
     def number(self):
         """How many sequences of all choices there are."""
-        return len(self.choices) ** self.count
+        return number_of(len(self.firsts), len(self.choices), self.count)
+
+    def begin(self):
+        """What a verdict begins with."""
+        return "" if self.part == WHOLE else "part %d of %d: " % self.part
 
     def is_over(self, layer, most):
         """Whether more than so many different states are reached by sequences of a number of choices."""
-        least, greatest = self.sizes[layer]
-        if least <= most < greatest:
-            raise Open("which bits of a register belong to a state")
-        return most < least
+        return most < self.sizes[layer]
 
 
 @lru_cache(2)
-def space_of(cartridge, inputs, choices, count, hold):
-    return Space(cartridge, inputs, choices, count, hold)
+def space_of(cartridge, inputs, choices, count, hold, part=WHOLE):
+    return Space(cartridge, inputs, choices, count, hold, part)
 
 
 # ---- the lines of layers
 
-LAYER = re.compile(rb"layer (\d+): (\d+) frames, (\d+) states, (\d+) merged, (\d+) played\n")
+LAYER = re.compile(rb"layer (\d+): (\d+) frames, (\d+) states, (\d+) merged, (\d+) played, (\d+) bytes, \d+ frames a second\n")
+STATE_BYTES, LINK_BYTES = 240, 16
 
 
 def last_layer(space, wanted):
     """The number of the last layer that has a line in the report."""
-    verdict = wanted.errors.decode()
+    verdict = wanted.errors.decode().removeprefix(space.begin())
     if verdict.startswith("best"):
         return wanted.output.count(b"replace")
     if verdict.startswith("stopped"):
@@ -242,57 +264,57 @@ def last_layer(space, wanted):
     return next((number for number, layer in enumerate(space.layers) if not layer), space.count)
 
 
-def is_line(space, number, frames, states, merged, played):
-    """Whether these can be the numbers of a layer: which bits of a register belong to a state is left open."""
-    going = [one for one in space.layers[number - 1] if not one.is_halted]
-    (least, greatest), choices = bounds(going), len(space.choices)
-    led, tried = divmod(merged + states, choices), divmod(played, space.hold)
-    return (frames == number * space.hold and space.sizes[number][0] <= states <= space.sizes[number][1] and led[1] == tried[1] == 0
-            and least <= led[0] <= greatest and led[0] <= tried[0] <= led[0] * choices)
+def line_of(space, number):
+    """The numbers of a layer: its frames and states, how many choices led to a state that was there, and how many frames are played for it."""
+    going = [one for one in different(space.layers[number - 1]).values() if not one.is_halted]
+    choices = len(space.choices_after(space.layers[number - 1][0])) if space.layers[number - 1] else 0
+    firsts = {one.sequence[:-1]: one for one in reversed(space.layers[number])}  # what the first choice after each sequence leads to
+    tried = sum(1 if firsts[one.sequence].is_lag else choices for one in going) if choices else 0
+    return number * space.hold, space.sizes[number], len(going) * choices - space.sizes[number], tried * space.hold
 
 
 def after_layers(errors, space, wanted):
     """What standard error has after the lines of layers, where there was a search; these lines too, where they aren't the page's."""
     if space is None:
         return errors
-    left, number, last = errors, 0, last_layer(space, wanted)
+    left, number, last, before, links = errors, 0, last_layer(space, wanted), 1, 1
     while line := LAYER.match(left):
         number += 1
-        layer, *numbers = map(int, line.groups())
-        if layer != number or number > last or not is_line(space, number, *numbers):
+        layer, *numbers, held = map(int, line.groups())
+        states = numbers[1]
+        links += states
+        if layer != number or number > last or tuple(numbers) != line_of(space, number) or held != STATE_BYTES * (before + states) + LINK_BYTES * links:
             return errors
+        before = states
         left = left[line.end():]
     return left if number == last else errors
 
 
-def frames_of(start, choices, count, hold):
+def frames_of(start, choices, count, hold, part=WHOLE):
     """How many frames are played at most."""
-    return start + hold * sum(choices ** length for length in range(1, count + 1))
+    firsts = len(firsts_of(part, choices))
+    return start + hold * sum(number_of(firsts, choices, length) for length in range(1, count + 1))
 
 
-def bounds(layer):
-    """At least and at most how many different states there are: the bits of a state that nothing shows may be part of it or not."""
-    return len({told_apart(one.state) for one in layer}), len({one.state for one in layer})
+def different(layer):
+    """The different states of a layer, each with the first sequence that leaves it."""
+    return {identity(one.state): one for one in reversed(layer)}
 
 
-# docs/MACHINE.md, section 4: the bits of each register that are used. What isn't here has its effect when it is written.
+# docs/MACHINE.md, section 4: the bits of each register that a state has, those that are used and all of PF0. What isn't here has its effect when it is written.
 USED = bytearray(64)
 for _register, _bits in {
         tia.VSYNC: 0x02, tia.VBLANK: 0x42, tia.NUSIZ0: 0x37, tia.NUSIZ1: 0x37, tia.COLUP0: 0xFE, tia.COLUP1: 0xFE, tia.COLUPF: 0xFE, tia.COLUBK: 0xFE,
-        tia.CTRLPF: 0x37, tia.REFP0: 0x08, tia.REFP1: 0x08, tia.PF0: 0xF0, tia.PF1: 0xFF, tia.PF2: 0xFF, tia.ENAM0: 0x02, tia.ENAM1: 0x02,
+        tia.CTRLPF: 0x37, tia.REFP0: 0x08, tia.REFP1: 0x08, tia.PF0: 0xFF, tia.PF1: 0xFF, tia.PF2: 0xFF, tia.ENAM0: 0x02, tia.ENAM1: 0x02,
         tia.HMP0: 0xF0, tia.HMP1: 0xF0, tia.HMM0: 0xF0, tia.HMM1: 0xF0, tia.HMBL: 0xF0, tia.VDELP0: 0x01, tia.VDELP1: 0x01, tia.VDELBL: 0x01,
         tia.RESMP0: 0x02, tia.RESMP1: 0x02}.items():
     USED[_register] = _bits
 
 
-def told_apart(state):
-    """What of a state a later frame can show."""
-    ram, a, x, y, s, flags, pc, halt, (interval, count, left, underflowed, flag), ports, (registers, *chip, h, has_black_edge) = state
-    if halt is not None:
-        return ram, halt
-    timer = (count, flag) if underflowed else (count, left, flag, interval if count else None)
-    edge = has_black_edge and h < tia.FIRST_VISIBLE_CLOCK + quick.BLACK_EDGE
-    return ram, a, x, y, s, flags, pc, timer, ports, bytes(value & bits for value, bits in zip(registers, USED)), tuple(chip), h, edge
+def identity(state):
+    """What two equal states have in common: docs/MACHINE.md, section 6, "Equal states"."""
+    *rest, (registers, *chip) = state
+    return (*rest, bytes(value & bits for value, bits in zip(registers, USED)), *chip)
 
 
 # ---- the answer
@@ -301,11 +323,11 @@ Answer = namedtuple("Answer", "verdict sequence")  # no sequence where there is 
 
 
 def best_of(space, sequence):
-    return Answer("best of all %d sequences" % space.number(), sequence)
+    return Answer(space.begin() + "best of all %d sequences" % space.number(), sequence)
 
 
 def stopped(space, most, layer, has_goal):
-    what = "stopped: more than %d states in layer %d" % (most, layer)
+    what = space.begin() + "stopped: more than %d states in layer %d" % (most, layer)
     return Answer(what + ": none of up to %d frames reaches it" % ((layer - 1) * space.hold) if has_goal else what, None)
 
 
@@ -320,14 +342,14 @@ def answer(space, goal, most):
                 if goal.value(one.ram) != 0:
                     return best_of(space, one.sequence)
     if looks_at_all:
-        return Answer("none: not one of all %d sequences reaches it" % space.number(), None)
+        return Answer(space.begin() + "none: not one of all %d sequences reaches it" % space.number(), None)
     return extreme(space, goal)
 
 
 def extreme(space, goal):
     values = [goal.value(one.ram) for one in space.layers[-1]]
     if not values:
-        return Answer("none: each of all %d sequences halts before its end" % space.number(), None)
+        return Answer(space.begin() + "none: each of all %d sequences halts before its end" % space.number(), None)
     return best_of(space, space.layers[-1][values.index(KINDS[goal.kind](values))].sequence)
 
 

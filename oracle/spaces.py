@@ -274,6 +274,17 @@ def some_count(rng, choices, most):
     return count
 
 
+def some_part(rng, choices):
+    """A part of a space with so many choices: one of a few, or one of about as many as there are choices, or of more."""
+    parts = rng.choice((1, 2, 3, 4, max(1, choices - 1), choices, choices + 1, 2 * choices, 1000000))
+    return rng.choice((1, parts, rng.randint(1, parts))), parts
+
+
+# What isn't a part.
+NO_PARTS = ("0/1", "1/0", "0/0", "2/1", "9/3", "1/1000001", "1000001/1000001", "1", "/", "1/", "/1", "", "1/2/3", "+1/2", "1/+2", "-1/2", "01/2", "1/02", "1 /2", "1/ 2", " 1/2", "1/2 ", "1:2", "1//2", "a/2", "1/0x2",
+            "1.0/2", "99999999999999999999/2", "1/18446744073709551617", "1\\2")
+
+
 class Plan:
     """A cartridge, a movie, and what is searched: choices, how many of them are in a sequence, and how long each is held."""
 
@@ -288,9 +299,10 @@ class Plan:
         self.count = some_count(rng, len(self.choices or searches.STICK), self.most / self.hold)
         if self.cartridge.sequences < 100:
             self.inputs, self.start = self.inputs[:4], min(self.start, 4)
+        self.part = searches.WHOLE
 
     def space(self):
-        return searches.space_of(self.cartridge.image, tuple(self.inputs[:self.start]), tuple(self.choices or searches.STICK), self.count, self.hold)
+        return searches.space_of(self.cartridge.image, tuple(self.inputs[:self.start]), tuple(self.choices or searches.STICK), self.count, self.hold, self.part)
 
 
 # ---- names
@@ -468,7 +480,7 @@ def goal_text(rng, expressions):
 
 # ---- goals at fault
 
-NO_WORDS = (str(GREATEST + 1), str(GREATEST + 1), "$85", "0x85", "byte:8a", "085", "-1", "byte:7F", "byte:", "bcd:", "pair:x1", "byte:100", "99999999999999999999", "=", "=>", "&&", "!", "(x", "x)", "AB", "80:byte", "word:80", "Not",
+NO_WORDS = (str(GREATEST + 1), str(GREATEST + 1), str(GREATEST + 1), str(GREATEST + 1), "$85", "0x85", "byte:8a", "085", "-1", "byte:7F", "byte:", "bcd:", "pair:x1", "byte:100", "99999999999999999999", "=", "=>", "&&", "!", "(x", "x)", "AB", "80:byte", "word:80", "Not",
             "AND", "()", "", "+1", "1.0", "byte:80:80", "BYTE:80", "byte: 80", ":80", "\xb2", "<>")
 REAL_WORDS = ("(", ")", "not", "and", "or", "==", "<", "+", "-", "*", "byte:80", "pair:FF", "bcd:9C", "0", "7", str(GREATEST), "x", "score")
 

@@ -112,8 +112,8 @@ class Files(unittest.TestCase):
 class OnPaper(unittest.TestCase):
     """Spaces of COUNTER: a frame with the stick to the right takes four cycles more, so after k choices there are as many states as numbers from 0 to k."""
 
-    def answer(self, goal, choices=(NOTHING, RIGHT), count=3, hold=1, most=1000):
-        space = searches.Space(cartridge(COUNTER), [RIGHT], choices, count, hold)
+    def answer(self, goal, choices=(NOTHING, RIGHT), count=3, hold=1, most=1000, part=searches.WHOLE):
+        space = searches.Space(cartridge(COUNTER), [RIGHT], choices, count, hold, part)
         return searches.answer(space, searches.read_goal(goal, {}), most)
 
     def test_reach(self):
@@ -143,6 +143,36 @@ class OnPaper(unittest.TestCase):
         self.assertEqual(self.answer("reach byte:80 == 3", (LEFT, RIGHT), 3), ("best of all 8 sequences", (1, 1)))
         self.assertEqual(self.answer("reach byte:80 == 9", (LEFT, RIGHT), 3, most=1), ("stopped: more than 1 states in layer 1: none of up to 0 frames reaches it", None))
 
+    def test_parts(self):
+        # Of two choices the first part of two has nothing at first, the second one the stick to the right.
+        for part, goal, answer in (
+                ((1, 2), "reach byte:80 == 2", ("best of all 4 sequences", (0, 1))), ((2, 2), "reach byte:80 == 2", ("best of all 4 sequences", (1,))),
+                ((1, 2), "reach byte:80 == 1", ("best of all 4 sequences", ())), ((2, 2), "reach byte:80 == 1", ("best of all 4 sequences", ())),
+                ((1, 2), "reach byte:80 == 4", ("none: not one of all 4 sequences reaches it", None)), ((2, 2), "least byte:80", ("best of all 4 sequences", (1, 0, 0))),
+                ((1, 2), "most byte:80", ("best of all 4 sequences", (0, 1, 1))), ((1, 2), "most byte:80 == 3", ("best of all 4 sequences", (0, 1, 1))),
+                ((2, 2), "reach byte:80 == 5", ("none: not one of all 4 sequences reaches it", None)), ((2, 3), "most byte:80", ("best of all 4 sequences", (0, 1, 1))),
+                ((1, 3), "reach byte:80 == 2", ("none: not one of all 0 sequences reaches it", None)), ((1, 3), "reach byte:80 == 1", ("best of all 0 sequences", ())),
+                ((1, 3), "most byte:80", ("none: each of all 0 sequences halts before its end", None))):
+            self.assertEqual(self.answer(goal, part=part), ("part %d of %d: " % part + answer[0], answer[1]), (part, goal))
+        self.assertEqual(self.answer("most byte:80", part=(2, 2), most=2), ("part 2 of 2: stopped: more than 2 states in layer 3", None))
+        for part in ((1, 3), (2, 3), (1, 1000000)):
+            self.assertEqual(self.answer("least byte:80", count=0, part=part), ("part %d of %d: best of all 1 sequences" % part, ()))
+
+    def test_firsts(self):
+        # The parts of any number have each choice once, in order.
+        for choices in range(1, 21):
+            for parts in list(range(1, 45)) + [1000, 1000000]:
+                numbers = range(1, parts + 1) if parts < 50 else [1, parts // 2, parts]
+                found = [choice for number in numbers for choice in searches.firsts_of((number, parts), choices)]
+                self.assertTrue(parts > 50 or found == list(range(choices)), (choices, parts))
+        self.assertEqual([list(searches.firsts_of((number, 4), 18)) for number in (1, 2, 3, 4)], [[0, 1, 2, 3], [4, 5, 6, 7, 8], [9, 10, 11, 12], [13, 14, 15, 16, 17]])
+
+    def test_words(self):
+        for word in spaces.NO_PARTS:
+            self.assertRaises(commands.Wrong, commands.part_of, word)
+        for word, part in (("1/1", (1, 1)), ("18/18", (18, 18)), ("1/1000000", (1, 1000000)), ("1000000/1000000", (1000000, 1000000))):
+            self.assertEqual(commands.part_of(word), part)
+
     def test_script(self):
         space = searches.Space(cartridge(COUNTER), [RIGHT], (NOTHING, RIGHT), 3, 2)
         script = "insert 4 1 ..... ..... .....\nreplace 1 2 R.... ..... .....\nreplace 3 2 ..... ..... .....\n"
@@ -151,11 +181,10 @@ class OnPaper(unittest.TestCase):
         self.assertFalse(searches.script_of((1, 0), space, 1, 5).startswith(b"insert"))
 
     def test_states(self):
-        # Bits of a register that nothing shows are left out where states are told apart, and colours aren't.
-        for code, is_one in (("8509", False), ("8515", True), ("8504", True), ("850D", False)):
+        # A state has the bits of a register that are used, and those of PF0 that aren't.
+        for code, states in (("8509", 2), ("8515", 1), ("8504", 1), ("850D", 2), ("4A4A4A4A 850D", 2), ("4A4A4A4A 8520", 1), ("8520", 2)):
             space = searches.Space(cartridge("AD8002 29C0 " + code + END_OF_FRAME), [], (RIGHT, LEFT), 1, 1)
-            self.assertEqual(space.sizes[1], (1 if is_one else 2, 2), code)
-
+            self.assertEqual(space.sizes[1], states, code)
 
     def test_plain_machine(self):
         """What some sequences of random spaces leave is what the plain machine leaves, which plays them from power-on."""
@@ -178,7 +207,7 @@ class OnPaper(unittest.TestCase):
 def changed(space, layers):
     """The space as if its sequences were these."""
     found = copy.copy(space)
-    found.layers, found.sizes = layers, [searches.bounds(layer) for layer in layers]
+    found.layers, found.sizes = layers, [len(searches.different(layer)) for layer in layers]
     return found
 
 
@@ -212,7 +241,7 @@ def going_on(space):
     layers, ended = [], []
     for layer in space.layers:
         layers.append(sorted(layer + ended, key=lambda one: one.sequence))
-        ended = [one._replace(sequence=one.sequence + (choice,)) for one in layers[-1] if one.is_halted for choice in range(len(space.choices))]
+        ended = [one._replace(sequence=one.sequence + (choice,)) for one in layers[-1] if one.is_halted for choice in space.choices_after(one)]
     return changed(space, layers)
 
 
@@ -239,6 +268,17 @@ def only_for(kinds, wrong):
     return lambda space, goal, most: (wrong if goal.kind in kinds else ANSWER)(space, goal, most)
 
 
+def of_last_first(space):
+    """All that begin with the last of a part's first choices."""
+    last = space.firsts[-1:] if space.part != searches.WHOLE else ()
+    return lambda layer: {one.sequence for one in layer if one.sequence[:1] and one.sequence[0] in last}
+
+
+def of_unbound(space):
+    """All that have a choice with which no sequence of the part begins."""
+    return lambda layer: {one.sequence for one in layer if one.sequence and one.sequence[-1] not in space.firsts}
+
+
 EXTREMES = ("most", "least")
 WRONG_ANSWERS = {
     "a layer's last state is left out": over(lambda space: without(space, of_last_state)),
@@ -252,8 +292,12 @@ WRONG_ANSWERS = {
     "the greatest is taken for the least": only_for(EXTREMES, lambda space, goal, most: ANSWER(space, goal._replace(kind="most"), most)),
     "one state less may be kept": lambda space, goal, most: ANSWER(space, goal, most - 1),
     "one state more may be kept": lambda space, goal, most: ANSWER(space, goal, most + 1),
-    "a stop is told as none": with_verdict(lambda verdict, space: "none: not one of all %d sequences reaches it" % space.number() if verdict.startswith("stopped") else verdict),
+    "a stop is told as none": with_verdict(lambda verdict, space: space.begin() + "none: not one of all %d sequences reaches it" % space.number() if "stopped" in verdict else verdict),
     "one sequence less is counted": one_less(r"(?<=all )[0-9]+"),
+    "a part loses its last first choice": over(lambda space: without(space, of_last_first(space))),
+    "a part binds every choice": over(lambda space: without(space, of_unbound(space))),
+    "a part's sequences are counted as the whole's": with_verdict(lambda verdict, space: re.sub(r"(?<=all )[0-9]+", str(len(space.choices) ** space.count), verdict)),
+    "the verdict names no part": with_verdict(lambda verdict, space: verdict.removeprefix(space.begin())),
     "the layer before is named": one_less(r"(?<=layer )[0-9]+"),
     "the frames before are named": one_less(r"(?<=up to )[0-9]+"),
 }
@@ -294,7 +338,7 @@ IS_NAME = searches.is_name
 class Planted(unittest.TestCase):
     """What `search` finds with its cases, where the program has a mistake."""
 
-    CASES, SEQUENCES = 600, 250
+    CASES, SEQUENCES = 900, 250
 
     def case(self, number):
         try:

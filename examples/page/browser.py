@@ -24,7 +24,7 @@ except ImportError:
 HERE = pathlib.Path(__file__).resolve().parent
 EXAMPLES = HERE.parent
 TAS = os.environ.get("TAS") or str(EXAMPLES.parent / "tas")
-ROW, HEAD, CELL, LEFT = 20, 26, 18, 76  # pixels of the roll, as in roll.js
+ROW, HEAD, CELL, LEFT = 20, 26, 18, 94  # pixels of the roll, as in roll.js
 # Notes when keys were pressed, and when pictures were shown.
 WATCH = """window.keys = []; window.pictures = [];
 addEventListener("keydown", () => keys.push(performance.now()), true);
@@ -93,9 +93,9 @@ class Run:
         return lambda *lines: self.request("POST", f"{lease}/ask", "".join(line + "\n" for line in lines).encode())[1]
 
 
-def browser(width=1280, height=860):
+def browser(width=1280, height=860, more=()):
     options = webdriver.ChromeOptions()
-    words = ["--headless=new", "--disable-gpu", "--disable-software-rasterizer", f"--window-size={width},{height}", "--disable-background-networking"]
+    words = ["--headless=new", "--disable-gpu", "--disable-software-rasterizer", f"--window-size={width},{height}", "--disable-background-networking", *more]
     for word in words + (["--no-sandbox"] if os.geteuid() == 0 else []):
         options.add_argument(word)
     options.set_capability("goog:loggingPrefs", {"browser": "ALL"})

@@ -7,7 +7,7 @@ let lease;
 export class Lost extends Error {}
 
 async function post(path, body) {
-  const answer = await fetch(path, { method: "POST", body }).catch(() => { throw new Lost("The server of this page has ended. After Ctrl-C its folder has end.movie."); });
+  const answer = await fetch(path, { method: "POST", body }).catch(() => { throw new Lost("The server of this page has ended. Its folder has end.movie, or, where it was cut off, a journal."); });
   if (answer.ok) return answer;
   throw new (answer.status === 500 ? Error : Lost)(await answer.text());
 }

@@ -1,13 +1,13 @@
 // The page: it holds a copy of the movie, and asks the desk one thing at a time, the most urgent one first.
 import { Lost, ask, decode, edit, film, lines, refusal, save, sit } from "./desk.js";
-import { Movie, carry, parse, runs, script, step, text, told } from "./movie.js";
+import { Movie, along, carry, parse, runs, script, step, text, told } from "./movie.js";
 import { Roll } from "./roll.js";
 
 const FAR = 1024; // a longer way is played in steps of so many frames, between which one can turn back
 const STRIP = 24; // pictures that are asked for at once
 const $ = id => document.getElementById(id);
 const make = (tag, ...parts) => Object.assign(document.createElement(tag), ...parts);
-const screen = $("picture").getContext("2d"), image = screen.createImageData(160, 210);
+const screen = $("picture").getContext("2d"), image = screen.createImageData(160, 210), dots = new DataView(image.data.buffer);
 
 // What is shown. In a draft `movie` is the draft's, and `base` the desk's. `lag` is 0 where it isn't known, 1 for a frame that reads its input, else 2.
 const view = {
@@ -15,9 +15,9 @@ const view = {
   get from() { return Math.min(this.cursor, this.anchor); },
   get to() { return Math.min(Math.max(this.cursor, this.anchor) + 1, this.movie.length); },
 };
-const shown = { frame: -1, ram: -1, states: -1 }; // the frames that the picture and RAM are of; when the states were asked for
+const shown = { frame: -1, ram: -1, read: 0, states: -1 }; // the frames that the picture and RAM are of; when RAM and the states were asked for
 const album = new Map(); // the answers with pictures that still hold, of at most 300 frames
-const player = { on: false, next: 0, due: 0 }; // the first frame to ask for, and the first one to show
+const player = { on: false, next: 0, due: 0, told: 0 }; // the first frame to ask for, and the first one to show; when the roll was drawn
 const wishes = []; // what the reader wants to have changed, and hasn't been done yet
 let at = 0, seat, filled = -1, heard = 0, moved = 0, way = 0, wake = () => {}, past = { undo: [], redo: [] }, doing = null, news = [];
 
@@ -45,7 +45,7 @@ function tell() {
 
 function show(frame, { words, bytes } = album.get(frame)) {
   if (words[0] === "picture") {
-    for (let from = 15, to = 0; to < image.data.length; to++) image.data[to] = to % 4 < 3 ? bytes[from++] : 255;
+    for (let from = 15, to = 0; from < bytes.length; from += 3, to += 4) dots.setUint32(to, bytes[from] << 24 | bytes[from + 1] << 16 | bytes[from + 2] << 8 | 255);
     screen.putImageData(image, 0, 0);
   } else screen.clearRect(0, 0, 160, 210);
   $("over").textContent = words[0] === "picture" ? "" : frame === view.movie.length ? "The movie ends here." : refusal(words);
@@ -85,14 +85,13 @@ function note(back) {
 
 /** Others have made a change: what this page wants to do, or to undo, is moved with its frames, and so is what the reader looks at. */
 function meet(change) {
-  const { place, count, more } = change, stacks = view.draft?.past ?? past, along = frame => frame >= place + count ? frame + more : frame;
+  const { place, count, more } = change, stacks = view.draft?.past ?? past;
   for (const [stack, other] of [[stacks.undo, { ...change }], [stacks.redo, { ...change }]]) stack.splice(0, 1 + stack.findLastIndex(backs => !carry(backs, other)));
-  for (const mark of view.others) Object.assign(mark, { place: along(mark.place), end: along(mark.end) });
+  for (const mark of view.others) Object.assign(mark, { place: along(change, mark.place), end: along(change, mark.end) });
   view.others.push({ place, end: place + Math.max(count + more, 1), until: performance.now() + 3000 });
   if (view.draft) return view.draft.others.push(change);
   for (const wish of [doing ?? [], ...wishes]) if (wish.steps && !carry(wish.steps, { ...change })) wish.clash = true;
-  roll.follow(along, more);
-  for (const key of ["cursor", "anchor"]) view[key] = along(view[key]);
+  roll.follow(change);
 }
 
 /** Catches up with the desk: what this page and others have edited is made in this page's copy, too. Returns whether there is more. */
@@ -140,7 +139,7 @@ async function land(wish) {
     const steps = wish.kind ? past[wish.kind].at(-1) : wish.steps;
     if (!steps) return say(`There is nothing to ${wish.kind}. An edit of others at the same frames ends that.`);
     const words = await edit(at, steps.flatMap(script));
-    await turn();
+    await turn().then(tell); // what others have edited is shown meanwhile
     if (words[0] === "commit") return;
     if (words[0] !== "moved") return say(refusal(words));
   }
@@ -162,17 +161,19 @@ async function begin() {
   [view.base, view.movie, past] = [view.base.copy(), view.base.copy(), { undo: [], redo: [] }];
 }
 
-async function drop() {
+/** Gives the draft up. The cursor stays at its frame by others' changes, and unless those of the draft are made again, by these undone. */
+async function drop(_, others = [...view.draft.steps.map(({ place, count, more }) => step(place, count + more, [], null, -more)).reverse(), ...view.draft.others]) {
   await ask("drop");
   const [place] = view.movie.span(view.base);
   [past, view.draft, view.movie] = [view.draft.past, null, view.base];
+  others.forEach(change => roll.follow(change));
   spoil(place);
 }
 
 /** Makes the draft's changes once more, on the movie as it is now. */
 async function commit(wish) {
-  const { steps, others } = view.draft, apart = others.map(other => carry(steps, { ...other }));
-  await drop();
+  const { steps } = view.draft, others = view.draft.others.map(other => ({ ...other })), apart = others.map(other => carry(steps, other));
+  await drop(wish, others);
   return land(Object.assign(wish, { steps, draft: true, clash: apart.includes(false) }));
 }
 
@@ -231,7 +232,7 @@ async function strip() {
 async function ram() {
   const { cursor } = view, [before, after] = await turn(`ram ${cursor}`, `ram ${Math.min(cursor + 1, view.movie.length)}`);
   if (before.words[0] === "ram" && after.words[0] === "ram") showRam(before.words[3], after.words[3]);
-  shown.ram = holds(before.words[1], cursor) ? cursor : -1;
+  Object.assign(shown, { ram: holds(before.words[1], cursor) ? cursor : -1, read: performance.now() });
 }
 async function lag(from, to) {
   const [{ words, bytes }] = await turn(`lag ${from} ${to}`);
@@ -253,8 +254,9 @@ async function next() {
   if (!player.on && shown.frame !== view.cursor) return look();
   if (now - heard > 250) return turn();
   if (!player.on && after.length && now - moved < 2000) return pictures(...after);
-  if (player.on || now - moved < 60) return false;
+  if (now - (player.on ? shown.read + 190 : moved) < 60) return false;
   if (shown.ram !== view.cursor) return ram();
+  if (player.on) return false;
   if (shown.states < 0 || now - shown.states > 2000) return keep((await turn("states"))[0]);
   if (row >= 0 && row < end && row - nearest(row) < FAR && now - view.scrolled > 80) return lag(row, end); // where that isn't a long way
   return filled >= 0 && fill();
@@ -276,6 +278,8 @@ async function talk() {
   }
 }
 
+const trace = () => { player.told = performance.now(); roll.reveal(view.cursor); tell(); wake(); };
+
 function move(frame, selecting = false) {
   const before = view.cursor;
   view.cursor = Math.max(0, Math.min(frame, view.movie.length));
@@ -284,9 +288,7 @@ function move(frame, selecting = false) {
   moved = performance.now();
   player.on = false;
   if (album.has(view.cursor)) show(view.cursor);
-  roll.reveal(view.cursor);
-  tell();
-  wake();
+  trace();
 }
 
 const want = wish => { wishes.push(wish); say(""); wake(); };
@@ -306,8 +308,7 @@ function repeat() {
 
 function paste(words) {
   const put = words.trim().split("\n").map(line => parse(line.trim())), long = put.reduce((sum, part) => sum + part?.count, 0);
-  if (isNaN(long)) return say("What was copied isn’t lines of a movie’s text.");
-  if (long > 262144) return say("What was copied has more than 262,144 frames.");
+  if (!(long <= 262144)) return say(isNaN(long) ? "What was copied isn’t lines of a movie’s text." : "What was copied has more than 262,144 frames.");
   change(view.from, 0, put.flatMap(({ frame, count }) => new Array(count).fill(frame)));
 }
 
@@ -315,7 +316,7 @@ function play() {
   Object.assign(player, { on: !player.on && view.cursor < view.movie.length, next: view.cursor, due: view.cursor, start: null });
   view.anchor = view.cursor;
   if (player.on) requestAnimationFrame(tick);
-  wake();
+  trace();
 }
 
 /** Shows the frame that the clock is at, 60 a second. Where its picture hasn't come yet, the clock waits. */
@@ -327,13 +328,11 @@ function tick(now) {
     player.due = frame + 1;
     view.cursor = view.anchor = frame;
     show(frame);
-    roll.reveal(frame);
-    tell();
-    wake();
+    if (now - player.told > 60) trace(); // drawing the roll takes longer than the picture
   } else if (frame >= player.due) player.start = null;
   player.on = player.due < view.movie.length && (!picture || picture.words[0] === "picture");
   if (player.on) requestAnimationFrame(tick);
-  else tell();
+  else trace();
 }
 
 const report = promise => promise.then(words => say(words, true), failed => say(failed.message));
@@ -358,6 +357,7 @@ const keys = {
 };
 addEventListener("keydown", event => {
   const action = keys[(event.ctrlKey || event.metaKey ? "Ctrl+" : "") + event.key];
+  if (event.key === "Enter" && event.target.matches("input")) $("roll").focus({ preventScroll: true });
   if (!action || event.target.matches("input") || event.target.matches("button, summary, a") && "Enter ".includes(event.key)) return;
   event.preventDefault();
   action(event);

@@ -12,6 +12,10 @@ mod heaps;
 #[cfg(test)]
 mod inputs;
 #[cfg(test)]
+mod journal_tests;
+#[cfg(test)]
+mod long_line_tests;
+#[cfg(test)]
 mod movies;
 #[cfg(test)]
 mod program_tests;

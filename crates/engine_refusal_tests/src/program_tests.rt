@@ -11,6 +11,7 @@ use std::process::Abort;
 use std::sync::Wait;
 use std::sync::atomic::{AtomicUsize, Ordering};
 use std::thread::Threads;
+use std::time::Clock;
 use tas_program::{Folder, OrdinaryFile, Permit, Streams, run_program};
 use test_streams::{Failure, Giver, Room, Taker};
 
@@ -98,7 +99,7 @@ fn words_of<'a, R: Abort>(rt: &R, heap: &'a Heap, words: &[&str]) -> io::Result<
 }
 
 /// A run with one growth refused, and whether it came to that one.
-fn run_refused<T: Wait + Threads + Abort + Sync>(
+fn run_refused<T: Wait + Threads + Clock + Abort + Sync>(
     rt: &T,
     alloc: Global,
     words: &[&str],
@@ -135,7 +136,7 @@ const MOST: u64 = 100;
 
 /// Refuses a run its growths in turn, until it grows no more: how many of them ended it, and at how many it ended as ever. Else the first
 /// growth that went wrong.
-fn count_refused<T: Wait + Threads + Abort + Sync>(
+fn count_refused<T: Wait + Threads + Clock + Abort + Sync>(
     rt: &T,
     alloc: Global,
     words: &[&str],

@@ -1,5 +1,6 @@
 -- What a session's answers say of the history under the lock, and why a job isn't stale.
-use Rattle.std.proofs.Common.{◌≡◌, ◌≢◌, ℕ, ◌+◌, List, length, take, min, refl, ap, sym, ◌∙◌, subst, Option, Some, None, Result, Ok, Err}
+use Rattle.std.proofs.Common.{◌≡◌, ◌≢◌, ℕ, ◌+◌, ◌<◌, ◌≤◌, List, [], ◌∷◌, ◌++◌, length, get_or, take, min, refl, ap, sym, ◌∙◌, subst, Option, Some, None, Result, Ok, Err}
+use Rattle.std.proofs.lemmas.List.{take_all, take_more}
 use mathlib.Core.List.{IsPrefix}
 use Rattle.std.specs.Prelude.{IfOk, OnOk, OnErr, MatchResult}
 use Rattle.tas_movie.specs.Content.{MovieContent}
@@ -16,8 +17,9 @@ use Rattle.tas_desk.specs.declared.work.Worked.{Worked}
 use Rattle.tas_published.specs.History.{movie_of}
 use Rattle.tas_session.specs.Session.{SessionContent}
 use Rattle.tas_desk.specs.Locked.{LockedContent, locked_of}
-use Rattle.tas_desk.specs.Work.{IsJobFrom, IsJobOf, Takes, IsTaken, with_job, KeepsCart}
+use Rattle.tas_desk.specs.Work.{IsJobFrom, IsJobOf, IsRunOf, Takes, IsTaken, with_job, none_worked, IsJobDone, AreJobs, KeepsCart}
 use Rattle.tas_desk.specs.Zones.{ZoneContent, CutsWindow, IsMadeFor, IsShared, Shares}
+use Rattle.tas_desk.proofs.GainLemmas.{taken_within}
 use Rattle.tas_published.proofs.PrefixLemmas.{prefix_self, prefix_trans}
 
 -- a session's job is one from the states under the lock
@@ -93,3 +95,90 @@ pub still_current : {A E : Type 0} (one other last : List (Entry A)) (worked now
     → (KeepsCart other last → ◌≡◌ {A = Result (Option ℕ) E} (Ok gained) (Ok None) → ⊥) → now ≡ with_job worked gained → KeepsCart one last → now.stale ≡ 0
 still_current one other last worked now (Some kept) first more none current is keeps = ap (λ (w : Worked). w.stale) is ∙ none (keeps_before one other last more keeps)
 still_current one other last worked now None first more none current is keeps = absurd (current (keeps_behind one other last first more keeps) refl)
+
+-- ---- jobs, one after the other
+
+-- a batch whose states a zone took is of a job that isn't stale
+pub job_done : {A : Type 0} (before at now : List (Entry A)) (near : ℕ) (job : JobContent) (batch : BatchContent) (offered : Offered) → IsPrefix before at → IsPrefix at now → IsJobOf (movie_of at) near job
+    → IsRunOf job batch → IsTaken (movie_of now) batch offered → (batch.cart ≢ (movie_of now).cart → ⊥) → IsJobDone before now near (Some offered.kept)
+job_done before at now near job batch offered begins goes_on of run taken same = record {
+  at = at;
+  begins = begins;
+  goes_on = goes_on;
+  job = job;
+  taken_at = of;
+  batch = batch;
+  run = run;
+  stale = (λ none. absurd cc, λ differs. absurd (same (λ is. differs (sym is ∙ run.cart ∙ of.is.cart))));
+  taken = (offered, taken, refl);
+  most = taken_within (movie_of now) batch offered near (movie_of at).inputs taken (run.inputs ∙ of.is.inputs);
+}
+
+-- one of another cartridge is of a job that is
+pub job_stale : {A : Type 0} (before at now : List (Entry A)) (near : ℕ) (job : JobContent) (batch : BatchContent) → IsPrefix before at → IsPrefix at now → IsJobOf (movie_of at) near job
+    → IsRunOf job batch → batch.cart ≢ (movie_of now).cart → IsJobDone before now near None
+job_stale before at now near job batch begins goes_on of run other = record {
+  at = at;
+  begins = begins;
+  goes_on = goes_on;
+  job = job;
+  taken_at = of;
+  batch = batch;
+  run = run;
+  stale = (λ none is. other (run.cart ∙ of.is.cart ∙ sym is), λ differs. refl);
+  taken = tt;
+  most = tt;
+}
+
+-- a job that was done since a history was done since each one before
+job_since : {A : Type 0} (one before now : List (Entry A)) (near : ℕ) (gained : Option ℕ) → IsPrefix one before → IsJobDone before now near gained → IsJobDone one now near gained
+job_since one before now near gained first done = record {
+  at = done.at;
+  begins = prefix_trans one before done.at first done.begins;
+  goes_on = done.goes_on;
+  job = done.job;
+  taken_at = done.taken_at;
+  batch = done.batch;
+  run = done.run;
+  stale = done.stale;
+  taken = done.taken;
+  most = done.most;
+}
+
+-- one job more
+jobs_more : {A : Type 0} (before now then : List (Entry A)) (worked last : Worked) (targets : List ℕ) (near : ℕ) (gained : Option ℕ) → AreJobs before worked targets last now → IsJobDone now then near gained
+    → AreJobs before worked (targets ++ near ∷ []) (with_job last gained) then
+unfolding AreJobs
+jobs_more before now then worked last [] near gained jobs done =
+    (gained, then, job_since before now then near gained jobs.1 done, (ap (λ (w : Worked). with_job w gained) jobs.0, prefix_self then))
+jobs_more before now then worked last (target ∷ targets) near gained jobs done =
+    (jobs.0, jobs.1, jobs.2, jobs_more jobs.1 now then (with_job worked jobs.0) last targets near gained jobs.3 done)
+
+-- the history may go on after the last one
+pub jobs_then : {A : Type 0} (before now then : List (Entry A)) (worked last : Worked) (targets : List ℕ) → AreJobs before worked targets last now → IsPrefix now then → AreJobs before worked targets last then
+unfolding AreJobs
+jobs_then before now then worked last [] jobs more = (jobs.0, prefix_trans before now then jobs.1 more)
+jobs_then before now then worked last (target ∷ targets) jobs more = (jobs.0, jobs.1, jobs.2, jobs_then jobs.1 now then (with_job worked jobs.0) last targets jobs.3 more)
+
+-- at first there is none
+pub jobs_none : {A : Type 0} (front : List (Entry A)) → AreJobs front none_worked [] none_worked front
+unfolding AreJobs
+jobs_none front = (refl, prefix_self front)
+
+-- the next target's
+pub jobs_next : {A : Type 0} (before now then : List (Entry A)) (last next : Worked) (targets : List ℕ) (i near : ℕ) (gained : Option ℕ) → i < length targets → near ≡ get_or targets i 0
+    → AreJobs before none_worked (take i targets) last now → IsJobDone now then near gained → next ≡ with_job last gained → AreJobs before none_worked (take (i + 1) targets) next then
+jobs_next {A} before now then last next targets i near gained lt here jobs done is =
+    let more : take (i + 1) targets ≡ take i targets ++ near ∷ [] = take_more targets i 0 lt ∙ ap (λ (n : ℕ). take i targets ++ n ∷ []) (sym here) in
+    subst (λ (list : List ℕ). AreJobs before none_worked list next then) (sym more)
+    (subst (λ (w : Worked). AreJobs before none_worked (take i targets ++ near ∷ []) w then) (sym is) (jobs_more before now then none_worked last (take i targets) near gained jobs done))
+
+-- all of them
+pub jobs_all : {A : Type 0} (before now : List (Entry A)) (last : Worked) (targets : List ℕ) (i : ℕ) → length targets ≤ i → AreJobs before none_worked (take i targets) last now → AreJobs before none_worked targets last now
+jobs_all before now last targets i le jobs = subst (λ (list : List ℕ). AreJobs before none_worked list last now) (take_all i targets le) jobs
+
+-- those before the one that was refused
+pub jobs_before : {A : Type 0} (before now then : List (Entry A)) (last : Worked) (targets : List ℕ) (i : ℕ) → last.jobs ≡ i → AreJobs before none_worked (take i targets) last now → IsPrefix now then
+    → AreJobs before none_worked (take last.jobs targets) last then
+jobs_before before now then last targets i is jobs more =
+    subst (λ (n : ℕ). AreJobs before none_worked (take n targets) last then) (sym is) (jobs_then before now then none_worked last (take i targets) jobs more)

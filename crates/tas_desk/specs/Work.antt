@@ -1,13 +1,14 @@
 -- Jobs, what they made, and replies to work.
-use Rattle.std.specs.Prelude.{◌≡◌, ℕ, ◌+◌, ◌*◌, ◌<◌, ◌≤◌, List, length, take, min, Option, Some, None, Result, Ok, Err}
+use Rattle.std.specs.Prelude.{◌≡◌, ◌≢◌, ◌↔◌, ℕ, ◌+◌, ◌*◌, ◌/◌, ◌<◌, ◌≤◌, List, [], ◌∷◌, length, take, min, Option, Some, None, IfSome, Result, Ok, Err}
 use mathlib.Core.List.{IsPrefix}
+use Rattle.vcs_machine.specs.Machine.{after}
 use Rattle.tas_movie.specs.Content.{MovieContent}
 use Rattle.tas_green.specs.declared.savestate.Savestate.{Savestate}
 use Rattle.tas_green.specs.Batch.{JobContent, BatchContent}
 use Rattle.tas_movie.specs.Front.{IsCommonFront}
 use Rattle.tas_green.specs.Green.{IsLawful}
 use Rattle.tas_green.specs.Grid.{most_states, stride}
-use Rattle.tas_green.specs.Zone.{state_at, nearest, first_of, where_true, is_on_grid}
+use Rattle.tas_green.specs.Zone.{state_at, nearest, first_of, where_true, is_on_grid, is_passed}
 use Rattle.tas_published.specs.declared.entry.Entry.{Entry}
 use Rattle.tas_session.specs.declared.replies.Offered.{Offered}
 use Rattle.tas_desk.specs.declared.work.Worked.{Worked}
@@ -29,6 +30,12 @@ pub record IsJobOf (movie : MovieContent) (near : ℕ) (job : JobContent) : Type
   pub lawful : IsLawful movie kept
   pub is : IsJobFrom kept movie near job
 
+-- what running a job makes: its cartridge, its inputs, and the machine's states at just the places of its grid after its start
+pub record IsRunOf (job : JobContent) (batch : BatchContent) : Type 0 where
+  pub cart : batch.cart ≡ job.cart
+  pub inputs : batch.inputs ≡ job.inputs
+  pub states : (f : ℕ) → state_at f batch.states ≡ where_true (is_passed job.stride job.start (length job.inputs) f) (Some (after job.cart (take f job.inputs)))
+
 -- a batch that a zone takes under a movie: it gains exactly the batch's states on the movie's grid up to the common front, and
 -- those that it lacked are counted
 pub record Takes (before now : List Savestate) (movie : MovieContent) (batch : BatchContent) (offered : Offered) : Type 0 where
@@ -49,6 +56,36 @@ pub record IsTaken (movie : MovieContent) (batch : BatchContent) (offered : Offe
 abbrev pub with_job : Worked → Option ℕ → Worked
 with_job worked (Some gained) = record { jobs = worked.jobs + 1; kept = min (worked.kept + gained) most_counted; stale = worked.stale }
 with_job worked None = record { jobs = worked.jobs + 1; kept = worked.kept; stale = worked.stale + 1 }
+
+-- a job for the first `near` frames, by a seat that had seen `before` and has now seen `now`: there are a history between these two, a job that starts there from the nearest state
+-- of some zone that is lawful for its movie, and what running that job makes. The job is stale exactly where this history and `now` have different cartridges; else some zone that is
+-- lawful at `now` takes these states, as far as the two movies' inputs agree, and `gained` is how many of them it lacked: at most as many as the grid at `now` has places up to `near`
+pub record IsJobDone {A : Type 0} (before now : List (Entry A)) (near : ℕ) (gained : Option ℕ) : Type 0 where
+  pub at : List (Entry A)
+  pub begins : IsPrefix before at
+  pub goes_on : IsPrefix at now
+  pub job : JobContent
+  pub taken_at : IsJobOf (movie_of at) near job
+  pub batch : BatchContent
+  pub run : IsRunOf job batch
+  pub stale : (gained ≡ None) ↔ ((movie_of now).cart ≢ (movie_of at).cart)
+  pub taken : IfSome gained (λ kept. (offered : Offered) × IsTaken (movie_of now) batch offered × (offered.kept ≡ kept))
+  pub most : IfSome gained (λ kept. kept ≤ min near (length (movie_of now).inputs) / stride (length (movie_of now).inputs))
+
+-- before any job
+abbrev pub none_worked : Worked
+none_worked = record { jobs = 0; kept = 0; stale = 0 }
+
+-- for each target, in order, a job was done, from where the one before it left the seat, and counted; the seat may have seen more since the last one
+unfoldable pub AreJobs : {A : Type 0} → (before : List (Entry A)) → (worked : Worked) → (targets : List ℕ) → (last : Worked) → (now : List (Entry A)) → Type 0
+AreJobs before worked [] last now = (last ≡ worked) × IsPrefix before now
+AreJobs {A} before worked (near ∷ targets) last now =
+    (gained : Option ℕ) × (then : List (Entry A)) × IsJobDone before then near gained × AreJobs then (with_job worked gained) targets last now
+
+-- just these jobs were done; or memory was refused, and those of the targets before
+abbrev pub HasWorked : {A : Type 0} → List (Entry A) → List ℕ → Result Worked WorkError → List (Entry A) → Type 0
+HasWorked before targets (Ok worked) now = AreJobs before none_worked targets worked now
+HasWorked before targets (Err (Memory done)) now = AreJobs before none_worked (take done.jobs targets) done now
 
 -- no more jobs are stale than were run, and the others gained together at most as many states as that many zones can have
 pub record IsTally (worked : Worked) : Type 0 where

@@ -3,7 +3,7 @@
 ghost use Rattle.std.specs.Prelude.{◌≡◌, ◌≢◌, ◌+◌, ◌<◌, ◌≤◌, ◌^◌, length, None, Ok, IfOk, IfSome};
 ghost use Rattle.tas_green.specs.Grid.{most_states};
 ghost use Rattle.tas_desk.specs.Seats.{KeepsZone};
-ghost use Rattle.tas_desk.specs.Work.{with_job, IsTally, IsWorked, KeepsCart, stale_in};
+ghost use Rattle.tas_desk.specs.Work.{with_job, HasWorked, IsJobDone, IsTally, IsWorked, KeepsCart, stale_in};
 
 use crate::locked_session::CloseOnDrop;
 use crate::{Desk, Gate, Name, OfferError, Seat};
@@ -78,6 +78,13 @@ impl<N: Name, W: CloseOnDrop, A: Allocator + Copy> Desk<N, W, A> {
         // call. The others gained at most 512 states each on average.
         // Refused: stale_jobs_are_counted_twice, each_job_is_counted_as_stale*.
         ensures reply { IsWorked (length targets.now) result }
+        // For each target there are two histories that the seat has seen since, a job that is one at the first of them for
+        // that many frames of its movie, and what running it makes. The job is stale exactly where the two histories'
+        // cartridges differ; else as many states are counted as some zone that is lawful at the second lacks of it.
+        // After `Memory` this holds of the first targets, as many as are reported. No clause says which zone it is.
+        // Refused: job_is_for_half_the_frames, gained_states_are_reported_as_none,
+        // refused_offer_is_reported_as_nothing_gained.
+        ensures jobs { HasWorked seat.old.front targets.now result seat.new.front }
         ensures current { KeepsCart seat.old.front seat.new.front → stale_in result ≡ 0 }
     {
         let mut done = Worked {
@@ -107,6 +114,7 @@ impl<N: Name, W: CloseOnDrop, A: Allocator + Copy> Desk<N, W, A> {
     ) -> Result<Option<usize>, AllocError>
         ensures seat { KeepsZone seat.old seat.new }
         ensures few { IfOk result (λ gained. IfSome gained (λ kept. kept ≤ most_states)) }
+        ensures done { IfOk result (IsJobDone seat.old.front seat.new.front near) }
         ensures current { KeepsCart seat.old.front seat.new.front → result ≢ Ok None }
     {
         let job = self.job(rt, alloc, seat, near)?;

@@ -1,8 +1,11 @@
 //! `tas lag`. Its rows were found by hand, those of the last three cartridges and the digests by other programs
 //! (`oracle/look`).
 
+use crate::checks::expect_ok;
 use crate::movies::{BLANK, HALTING, HALTING_DIGEST, NO_FRAMES, STORES, image_of, text_of};
 use crate::ran::{Engine, check_fault, check_ran, run_on};
+use std::alloc::Global;
+use std::process::Abort;
 use tas_engines::{RunFault, ToolFault};
 
 /// Reads the sticks in each fourth frame: INC 80, LDA 80, AND #3, BNE F00B, LDA 280, LDA #2, STA VSYNC, LDA #0, STA VSYNC, JMP F000.
@@ -67,6 +70,42 @@ fn stretches_of_lag_frames(rt: HostRuntime) {
         let ran = run_on(alloc, Engine::Lag, cart.as_slice(), text.as_slice());
         check_ran(&rt, row, ran, lines);
     }
+}
+
+/// The text of the longest movie of a cartridge, in which nothing is pressed.
+fn longest_text<R: Abort>(rt: &R, alloc: Global, digest: &str) -> Vec<u8> {
+    let text = expect_ok(
+        rt,
+        format!(in alloc; "a26movie 2\ncart {digest}\n..... ..... ..... x262144\n"),
+    );
+    expect_ok(rt, Vec::from_slice(alloc, text.as_bytes()))
+}
+
+/// The lines of its lag frames, where each fourth frame is none.
+fn all_but_each_fourth<R: Abort>(rt: &R, alloc: Global) -> Vec<u8> {
+    let mut lines = Vec::new(alloc);
+    for stretch in 0..65_536u32 {
+        let from = stretch.saturating_mul(4);
+        let to = from.saturating_add(3);
+        let line = expect_ok(rt, format!(in alloc; "{from} {to}\n"));
+        expect_ok(rt, lines.extend_from_slice(line.as_bytes()));
+    }
+    lines
+}
+
+/// 262,144 frames are no reason to be out of memory, with one stretch or with 65,536.
+#[test]
+fn lag_frames_of_the_longest_movie(rt: HostRuntime) {
+    let alloc = rt.alloc();
+    let cart = image_of(&rt, alloc, HALTING);
+    let text = longest_text(&rt, alloc, HALTING_DIGEST);
+    let ran = run_on(alloc, Engine::Lag, cart.as_slice(), text.as_slice());
+    check_ran(&rt, "halted", ran, b"0 262144\n");
+    let cart = image_of(&rt, alloc, FOURTH);
+    let text = longest_text(&rt, alloc, FOURTH_DIGEST);
+    let ran = run_on(alloc, Engine::Lag, cart.as_slice(), text.as_slice());
+    let lines = all_but_each_fourth(&rt, alloc);
+    check_ran(&rt, "each fourth", ran, lines.as_slice());
 }
 
 #[test]

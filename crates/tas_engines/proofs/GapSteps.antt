@@ -14,7 +14,7 @@ use Rattle.tas_movie.proofs.RunLemmas.{runs_longest, runs_made, runs_split, leng
 use Rattle.tas_language.specs.declared.change.Change.{Change}
 use Rattle.tas_language.specs.declared.change.Change.TheVariants.{Insert, Replace, Delete}
 use Rattle.tas_engines.specs.Differences.{count_of, Follows, AreInOrder, put_in_from, DeletionsDiffer}
-use Rattle.tas_engines.specs.Hunks.{Leads, AddsReplacement, deletion, insertions}
+use Rattle.tas_engines.specs.Hunks.{Leads, IsBridged, AddsReplacement, deletion, insertions}
 use Rattle.tas_engines.proofs.HunkLemmas.{led_nowhere, led_on, led_same, led_within, led_by_deletion, led_by_replacement, led_by_insertion}
 
 -- ---- insertions of runs
@@ -248,15 +248,15 @@ replacing_same old new a b end done left before now g r same =
 
 replacing_other : (old new : List Input) (a b end done left n : ℕ) (input : Input) (before now : List Change) → LeftToReplace old new a b end done left → Replacing old new a b end done before now
     → 1 ≤ n → n ≤ left → take n (drop (b + done) new) ≡ replicate n input → get_or new (b + done) no_input ≡ input → (get_or old (a + done) no_input ≡ input → ⊥) → (get_or old (a + done + (n - 1)) no_input ≡ input → ⊥)
-    → (n < left → get_or new (b + done + n) no_input ≡ input → get_or old (a + done + n) no_input ≡ input)
+    → IsBridged old (a + done) n input → (n < left → get_or new (b + done + n) no_input ≡ input → get_or old (a + done + n) no_input ≡ input)
     → Replacing old new a b end (done + n) before (now ++ Replace (b + done) n input ∷ [])
-replacing_other old new a b end done left n input before now g r some fits run begins first last longest =
+replacing_other old new a b end done left n input before now g r some fits run begins first last bridged longest =
     let short = g.short in
     let short_new = g.short_new in
     let c = Replace (b + done) n input in
     let old_next : a + done + n ≡ a + (done + n) = omega arith in
     let new_next : b + done + n ≡ b + (done + n) = omega arith in
-    let one = led_by_replacement old new (a + done) (b + done) n (b + (done + n) + 1) input some (omega (arith, fits, g.old_within)) (omega (arith, fits, g.new_within, g.new_end)) (omega arith) short short_new run first last in
+    let one = led_by_replacement old new (a + done) (b + done) n (b + (done + n) + 1) input some (omega (arith, fits, g.old_within)) (omega (arith, fits, g.new_within, g.new_end)) (omega arith) short short_new run first last bridged in
     let led = led_on old new a b (a + done) (b + done) (a + done + n) (b + done + n) (b + done + 1) (b + (done + n) + 1) r.changes (c ∷ []) r.leads one (omega arith)
     (order_more r.changes c r.leads.order (last_map (OpenEnd old new (a + done) (b + done) end) (λ (x : Change). Follows x c) r.changes follows r.last) some)
     (deletions_more r.changes (b + done) n input r.leads.deletions) in
@@ -305,10 +305,13 @@ replacing_next old new a b end done left n before now after g r (inr other) =
     let first : get_or old (a + done) no_input ≡ input → ⊥ = λ e. other.1 (part_first old (a + done) left some ∙ e) in
     let many : 1 ≤ n = at_least n run.longest (omega (arith, len, some)) other.1 in
     let last : get_or old (a + done + (n - 1)) no_input ≡ input → ⊥ = λ e. run.last many (part_at old (a + done) left (n - 1) (omega (arith, many, fits)) ∙ e) in
+    let bridged : IsBridged old (a + done) n input = λ i far.
+    let at = run.bridged i far in
+    (at.0, at.1, at.2, λ e. at.3 (part_at old (a + done) left at.0 (omega (arith, at.2, far, fits)) ∙ e)) in
     let further : n < left → get_or new (b + done + n) no_input ≡ input → get_or old (a + done + n) no_input ≡ input =
     λ lt e. sym (part_at old (a + done) left n lt) ∙ run.longest (omega (arith, lt, len)) (part_at new (b + done) left n lt ∙ e) in (
       subst (λ (l : List Change). Replacing old new a b end (done + n) before l) (sym other.0)
-          (replacing_other old new a b end done left n input before now g r many fits (sym (take-take n left (drop (b + done) new) fits) ∙ run.same) (sym (part_first new (b + done) left some)) first last further),
+          (replacing_other old new a b end done left n input before now g r many fits (sym (take-take n left (drop (b + done) new) fits) ∙ run.same) (sym (part_first new (b + done) left some)) first last bridged further),
       many,
       fits,
     )

@@ -14,7 +14,7 @@ use Rattle.tas_language.specs.declared.change.Change.{Change}
 use Rattle.tas_language.specs.declared.change.Change.TheVariants.{Insert, Replace, Delete}
 use Rattle.tas_engines.specs.Changes.{HaveNumbers, edit_of, changed_by, AreAllowed}
 use Rattle.tas_engines.specs.Differences.{taken_out, put_in, place_of, end_of, count_of, AreInOrder, put_in_from, DeletionsDiffer, AreWithin, ChangesItsEnds, ChangeTheirEnds}
-use Rattle.tas_engines.specs.Hunks.{halfway, Leads}
+use Rattle.tas_engines.specs.Hunks.{halfway, Leads, IsBridged}
 use Rattle.tas_language.proofs.MadeLemmas.{movie_of, cut, insert_allowed, replace_allowed, delete_allowed, made_insert, made_replace, made_delete}
 
 -- ---- some changes, and others after them
@@ -261,9 +261,9 @@ differs_at old new a b i j input le from is ne e =
 
 pub led_by_replacement : (old new : List Input) (a b n to : ℕ) (input : Input) → 1 ≤ n → a + n ≤ length old → b + n ≤ length new → b + n < to → length old ≤ most_inputs → length new ≤ most_inputs
     → take n (drop b new) ≡ replicate n input → (get_or old a no_input ≡ input → ⊥) → (get_or old (a + (n - 1)) no_input ≡ input → ⊥)
-    → Leads old new a b (a + n) (b + n) to (Replace b n input ∷ [])
+    → IsBridged old a n input → Leads old new a b (a + n) (b + n) to (Replace b n input ∷ [])
 unfolding taken_out put_in DeletionsDiffer
-led_by_replacement old new a b n to input some fits fits' lt short short' run first last =
+led_by_replacement old new a b n to input some fits fits' lt short short' run first last bridged =
     let le : b ≤ length new = omega (arith, fits') in
     let may : (cart : List ℕ) → IsAllowed (halfway cart old new a b) (edit_of (Replace b n input)) = λ cart. replace_allowed cart (take b new ++ drop a old) b n input (omega (arith, length-halfway old new a b le, fits)) in
     led_alone old new a b (a + n) (b + n) to (Replace b n input) (record {
@@ -279,7 +279,13 @@ led_by_replacement old new a b n to input some fits fits' lt short short' run fi
       within = lt;
       some = some;
       deletions = tt;
-      ends = λ cart. (differs_at old new a b b a input le (omega arith) (omega arith) first, differs_at old new a b (b + n - 1) (a + (n - 1)) input le (omega (arith, some)) (omega (arith, some)) last);
+      ends = λ cart. (
+        differs_at old new a b b a input le (omega arith) (omega arith) first,
+        differs_at old new a b (b + n - 1) (a + (n - 1)) input le (omega (arith, some)) (omega (arith, some)) last,
+        λ i from far.
+            let at = bridged (i - b) (omega (arith, from, far)) in
+            (b + at.0, omega (arith, from, at.1), omega (arith, from, at.2), differs_at old new a b (b + at.0) (a + at.0) input le (omega arith) (omega arith) at.3),
+      );
       numbers = (omega (arith, fits', short'), omega (arith, fits, short));
     })
 

@@ -86,10 +86,18 @@ unfoldable pub AreWithin : ℕ → ℕ → List Change → Type 0
 AreWithin from to [] = Unit {0}
 AreWithin from to (change ∷ changes) = (from ≤ place_of change) × (end_of change < to) × AreWithin from to changes
 
--- a replacement changes the first and the last of the inputs that it is written over
+-- how many inputs in a row may stay the same within a replacement
+abbrev pub most_bridged : ℕ
+most_bridged = 15
+
+-- of the inputs from one place to before another one, each 16 in a row have one that isn't this input
+abbrev pub BridgesFew : List Input → ℕ → ℕ → Input → Type 0
+BridgesFew inputs from to input = (i : ℕ) → from ≤ i → i + most_bridged < to → (j : ℕ) × (i ≤ j) × (j ≤ i + most_bridged) × (slice_get inputs j ≢ Some input)
+
+-- a replacement changes the first and the last of the inputs that it is written over, and between them no more than 15 in a row stay the same
 abbrev pub ChangesItsEnds : MovieContent → Change → Type 0
 ChangesItsEnds movie (Insert at count input) = Unit {0}
-ChangesItsEnds movie (Replace at count input) = (slice_get movie.inputs at ≢ Some input) × (slice_get movie.inputs (at + count - 1) ≢ Some input)
+ChangesItsEnds movie (Replace at count input) = (slice_get movie.inputs at ≢ Some input) × (slice_get movie.inputs (at + count - 1) ≢ Some input) × BridgesFew movie.inputs at (at + count) input
 ChangesItsEnds movie (Delete at count) = Unit {0}
 
 -- each of some changes does, on what those before it made

@@ -12,7 +12,7 @@ use Rattle.tas_engines.specs.declared.alike.Lengths.{Lengths}
 use Rattle.tas_engines.specs.declared.stages.Stage.{Stage}
 use Rattle.tas_engines.specs.declared.stages.Step.{Step}
 use Rattle.tas_engines.specs.Changes.{changed_by, AreAllowed, HaveNumbers}
-use Rattle.tas_engines.specs.Differences.{taken_out, put_in, AreWithin, AreInOrder, DeletionsDiffer, ChangeTheirEnds, frames, alike_runs, GoOnAlike, AreApart}
+use Rattle.tas_engines.specs.Differences.{taken_out, put_in, AreWithin, AreInOrder, DeletionsDiffer, ChangeTheirEnds, most_bridged, frames, alike_runs, GoOnAlike, AreApart}
 
 -- the movie that has the first b of the new inputs, and after them the old ones from a on
 abbrev pub halfway : List ℕ → List Input → List Input → ℕ → ℕ → MovieContent
@@ -65,11 +65,16 @@ pub record IsCommonFrom (old new : List Input) (gap : Gap) (anchor : Anchor) (n 
   pub same : take n (drop anchor.old old) ≡ take n (drop anchor.new new)
   pub room : anchor.new + (length old - anchor.old) ≤ most_inputs
 
--- n of the new inputs are this one; the last of the old ones there is another one, and the next one isn't changed by it
+-- of n old inputs from a place on, each 16 in a row have one that isn't this input
+abbrev pub IsBridged : List Input → ℕ → ℕ → Input → Type 0
+IsBridged old from n input = (i : ℕ) → i + most_bridged < n → (j : ℕ) × (i ≤ j) × (j ≤ i + most_bridged) × (slice_index_or old (from + j) no_input ≢ input)
+
+-- n of the new inputs are this one; the last of the old ones there is another one, and so is one of each 16 of them; the next one isn't changed by it
 pub record IsReplacedRun (old new : List Input) (input : Input) (n : ℕ) : Type 0 where
   pub within : n ≤ length new
   pub same : take n new ≡ replicate n input
   pub last : 0 < n → slice_index_or old (n - 1) no_input ≢ input
+  pub bridged : (i : ℕ) → i + most_bridged < n → (j : ℕ) × (i ≤ j) × (j ≤ i + most_bridged) × (slice_index_or old j no_input ≢ input)
   pub longest : n < length new → slice_index_or new n no_input ≡ input → slice_index_or old n no_input ≡ input
 
 -- the first n inputs are done: one that stays, or those of a replacement, which is added

@@ -269,10 +269,12 @@ pub fn changes_between<A: Allocator + Copy>(
     // back, none in the common beginning or the common end; they take out and put in no more than lies between
     // these; equal lists have none. Each is of one input at least; of two that touch both replace or both put in, and
     // the inputs differ, so they couldn't be one, or the first deletes and the second puts in; after a deletion more or
-    // fewer inputs are put in than it takes out. A replacement changes the first and the last of its inputs.
+    // fewer inputs are put in than it takes out. A replacement changes the first and the last of its inputs, and at most
+    // 15 in a row between them stay the same.
     // Refused: difference_forgets_the_end, deletion_in_place_of_a_replacement*,
-    // frames_after_an_anchor_are_not_compared, replacement_covers_frames_that_stay*, movie_is_too_long_for_a_while*,
-    // one_deleted_frame_stays*, line_for_each_frame*, difference_begins_anew*.
+    // frames_after_an_anchor_are_not_compared, replacement_covers_frames_that_stay*,
+    // replacement_goes_on_over_16_frames, movie_is_too_long_for_a_while*, one_deleted_frame_stays*,
+    // line_for_each_frame*, difference_begins_anew*.
     // A difference falls into hunks: the runs of the inputs between the common beginning and the common end, old and
     // new, are those of hunks, and at least four runs stay between two of these. The changes of a hunk are within it:
     // they take out no more than its old runs, and put in no more than its new ones. Its old and its new runs have no

@@ -1,5 +1,5 @@
 -- A movie with the states that are kept of it.
-use Rattle.std.specs.Prelude.{ℕ, ◌<◌, ◌≤◌, List, length}
+use Rattle.std.specs.Prelude.{◌≡◌, ℕ, ◌+◌, ◌≤◌, List, length}
 use Rattle.tas_movie.specs.Content.{MovieContent}
 use Rattle.tas_green.specs.declared.savestate.Savestate.{Savestate}
 use Rattle.tas_green.specs.Grid.{most_states}
@@ -20,12 +20,12 @@ pub record AreOfMovie (view : ViewContent) : Type 0 where
   pub states : IsLawful view.movie view.states
   pub near : AreMovieStates view.movie view.near
 
--- what the type keeps: the states are the movie's, and there is room for all that a movie may have
+-- what the type keeps: the states are the movie's, and there is room for all that a movie may have and for one more, in each list, and for no more
 pub record IsView (view : ViewContent) (size near_size : ℕ) : Type 0 where
   pub lawful : AreOfMovie view
   pub few : length view.near ≤ most_near
-  pub room : most_states < size
-  pub near_room : most_near < near_size
+  pub room : size ≡ most_states + 1
+  pub near_room : near_size ≡ most_near + 1
 
 abbrev pub both_of : ViewContent → BothContent
 both_of view = both view.states view.near

@@ -23,7 +23,7 @@ use crate::green::batch_front;
 use crate::playing::{Span, kept_at, play_span};
 use crate::viewing::{pass_near, play_near, retain_up_to};
 use crate::window::{MAX_NEAR, ReachedState, Viewed};
-use crate::zone::{absorb, holds_at, nearest_of, retain_on_grid};
+use crate::zone::{absorb, copied, holds_at, nearest_of, retain_on_grid};
 use crate::{Batch, Green, Job, MAX_STATES, Merged, Savestate, shared_front, stride};
 use std::alloc::{AllocError, Allocator, Global};
 use std::marker::Model;
@@ -68,8 +68,9 @@ impl<A: Allocator> Model for View<A> {
     ghost view = { λ v. view_of v.movie v.states.items v.near.items };
 
     // Whatever was called, a view's kept states are its movie's machine and stand on its grid, and its window's states
-    // are its movie's machine. No call has a condition on them.
-    // Refused: none, see `View::follow`.
+    // are its movie's machine. No call has a condition on them. Its lists have room for 513 and for 99 states, and for
+    // no more: 106,704 and 20,592 bytes, at 208 for each state.
+    // Refused: window_has_room_for_one_more, copied_states_have_room_for_one_more.
     ghost invariant = { λ v. IsView (view_of v.movie v.states.items v.near.items) (vec_capacity v.states) (vec_capacity v.near) };
 }
 
@@ -349,10 +350,8 @@ impl<A: Allocator> View<A> {
         ensures { IfOk result (λ view. view ≡ self.now) }
     {
         let movie = self.movie.copy(alloc)?;
-        let mut states = Vec::with_capacity(alloc, STATES)?;
-        states.extend_from_slice(self.states.as_slice())?;
-        let mut near = Vec::with_capacity(alloc, NEAR)?;
-        near.extend_from_slice(self.near.as_slice())?;
+        let states = copied(alloc, self.states.as_slice(), STATES)?;
+        let near = copied(alloc, self.near.as_slice(), NEAR)?;
         Ok(View {
             movie,
             states,

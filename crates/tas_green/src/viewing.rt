@@ -54,7 +54,7 @@ fn keep_near<A: Allocator>(states: &mut Vec<Savestate, A>, frame: usize, state: 
     ensures rising { IsRising 0 states.new.items }
     ensures states { (f : ℕ) → state_at f states.new.items ≡ first_of (state_at f states.old.items)
         (where_true (is_near end frame && (frame == f)) (Some state.now)) }
-    ensures capacity { vec_capacity states.old ≤ vec_capacity states.new }
+    ensures capacity { vec_capacity states.new ≡ vec_capacity states.old }
 {
     if is_near(end, frame) {
         let state = state.pack();
@@ -93,12 +93,12 @@ fn pass_both<A: Allocator, B: Allocator, C: Allocator>(
         (Some (after cart.now (take f inputs.now)))) }
     ensures most { vec_len green.new + span.start.frame / span.stride
         ≤ vec_len green.old + span.end / span.stride }
-    ensures capacity { vec_capacity green.old ≤ vec_capacity green.new }
+    ensures capacity { vec_capacity green.new ≡ vec_capacity green.old }
     ensures window_rising { IsRising 0 window.new.items }
     ensures filled { (f : ℕ) → state_at f window.new.items ≡ first_of (state_at f window.old.items)
         (where_true (is_gained place span.start.frame span.end f)
         (Some (after cart.now (take f inputs.now)))) }
-    ensures window_capacity { vec_capacity window.old ≤ vec_capacity window.new }
+    ensures window_capacity { vec_capacity window.new ≡ vec_capacity window.old }
     ensures meter { meter.new ≡ meter.old + (span.end - span.start.frame) }
 {
     let mut state = span.start.state.unpack();
@@ -143,8 +143,8 @@ fn play_both<A: Allocator, B: Allocator, C: Allocator, D: Allocator>(
     ensures filled { (f : ℕ) → state_at f window.new.items ≡ first_of (state_at f window.old.items)
         (where_true (is_gained span.end span.start.frame span.end f)
         (Some (after cart.now (take f inputs.now)))) }
-    ensures capacity { vec_capacity green.old ≤ vec_capacity green.new }
-    ensures window_capacity { vec_capacity window.old ≤ vec_capacity window.new }
+    ensures capacity { vec_capacity green.new ≡ vec_capacity green.old }
+    ensures window_capacity { vec_capacity window.new ≡ vec_capacity window.old }
 {
     let mut meter = Meter::new();
     let place = span.end;
@@ -188,8 +188,8 @@ pub fn play_near<A: Allocator, B: Allocator, C: Allocator, D: Allocator>(
     ensures lawful { IsLawful movie.now green.new.items }
     ensures states { AreMovieStates movie.now window.new.items }
     ensures few { vec_len window.new ≤ most_near }
-    ensures capacity { vec_capacity green.old ≤ vec_capacity green.new }
-    ensures window_capacity { vec_capacity window.old ≤ vec_capacity window.new }
+    ensures capacity { vec_capacity green.new ≡ vec_capacity green.old }
+    ensures window_capacity { vec_capacity window.new ≡ vec_capacity window.old }
 {
     let step = stride(movie.len());
     let span = Span {
@@ -226,8 +226,8 @@ pub fn pass_near<A: Allocator, B: Allocator, C: Allocator>(
     ensures lawful { IsLawful movie.now green.new.items }
     ensures states { AreMovieStates movie.now window.new.items }
     ensures few { vec_len window.new ≤ most_near }
-    ensures capacity { vec_capacity green.old ≤ vec_capacity green.new }
-    ensures window_capacity { vec_capacity window.old ≤ vec_capacity window.new }
+    ensures capacity { vec_capacity green.new ≡ vec_capacity green.old }
+    ensures window_capacity { vec_capacity window.new ≡ vec_capacity window.old }
 {
     let step = stride(movie.len());
     let span = Span {

@@ -1,3 +1,5 @@
 pub mod LineLemmas
 pub mod NoteLemmas
 pub mod TalkLemmas
+pub mod ReceiptLemmas
+pub mod SharedLemmas

@@ -17,7 +17,7 @@ use Rattle.tas_seat.specs.Outcomes.{HasTalkAnswer}
 use Rattle.tas_seat.proofs.HistoryLemmas.{line_leaves}
 use Rattle.tas_journaling.specs.declared.journal.JournalFault.{JournalFault}
 use Rattle.tas_journaling.specs.declared.journal.JournalFault.TheVariants.{Write, Sync, Memory}
-use Rattle.tas_journaling.specs.Journals.{journaled, lines_from, JournalContent, IsNoted, IsCutShort}
+use Rattle.tas_journaling.specs.Journals.{journaled, lines_from, JournalContent, IsNoted, IsCutShort, IsUnsynced, IsGivenPart}
 use Rattle.tas_journaling.specs.Answers.{KeepsUp, FallsShort}
 use Rattle.tas_journaling.proofs.LineLemmas.{lines_split}
 
@@ -55,17 +55,13 @@ all_entries {A} most upto at history entries are long whole =
 
 -- ---- bytes of a file
 
--- a write was cut off; `seen` is the journal that `old` names
-pub cut_part : (old seen : JournalContent) (new : Option (List ℕ)) (bytes : List ℕ) (sent : ℕ) → seen ≡ old → IsCutOff seen.bytes new bytes sent → (part : ℕ) × Appends old.bytes new (take part bytes)
-cut_part old seen new bytes sent is cut = (sent, subst (λ (j : JournalContent). Appends j.bytes new (take sent bytes)) is cut.front)
-
 -- all was written
-pub whole_part : (old seen : JournalContent) (middle new : Option (List ℕ)) (bytes : List ℕ) → seen ≡ old → Appends seen.bytes middle bytes → new ≡ middle → (part : ℕ) × Appends old.bytes new (take part bytes)
-whole_part old seen middle new bytes is out same = (
-  length bytes,
-  subst (λ (l : List ℕ). Appends old.bytes new l) (sym (take_all (length bytes) bytes (omega arith)))
-      (subst (λ (o : Option (List ℕ)). Appends old.bytes o bytes) (sym same) (subst (λ (j : JournalContent). Appends j.bytes middle bytes) is out)),
-)
+pub whole_part : (old middle new : Option (List ℕ)) (bytes : List ℕ) → Appends old middle bytes → new ≡ middle → IsGivenPart old new bytes Sync
+whole_part old middle new bytes out same = subst (λ (o : Option (List ℕ)). Appends old o bytes) (sym same) out
+
+-- some of these bytes were, or all, or none; `seen` is the journal that `old` names
+pub part_as : (old seen : JournalContent) (new : Option (List ℕ)) (bytes lines : List ℕ) (fault : JournalFault) → seen ≡ old → bytes ≡ lines → IsGivenPart seen.bytes new bytes fault → IsGivenPart old.bytes new lines fault
+part_as old seen new bytes lines fault is same part = subst (λ (j : JournalContent). IsGivenPart j.bytes new lines fault) is (subst (λ (l : List ℕ). IsGivenPart seen.bytes new l fault) same part)
 
 -- the entries that were asked for, from the place that the journal names
 pub asked : {A : Type 0} (old seen : JournalContent) (most : ℕ) (history items entries : List (Entry A)) → seen ≡ old → entries ≡ items → items ≡ take most (drop seen.upto history) → entries ≡ take most (drop old.upto history)
@@ -108,37 +104,60 @@ notes_all {A} before now old new most at entries kept are long whole same to fau
       all = to ∙ long;
     }
 
+-- the lines up to the next one stay those that they were
+same_lines : {A : Type 0} (history : List (Entry A)) (old new : JournalContent) → new.first ≡ old.first → new.upto ≡ old.upto → lines_from new.first (take new.upto history) ≡ lines_from old.first (take old.upto history)
+same_lines {A} history old new same to = ap (λ (k : ℕ). lines_from k (take new.upto history)) same ∙ ap (λ (k : ℕ). lines_from old.first (take k history)) to
+
 -- the first bytes of these lines were written
 notes_part : {A : Type 0} (before now : SeatContent A) (old new : JournalContent) (most at sent : ℕ) (entries : List (Entry A)) → KeepsZone before now → entries ≡ take most (drop old.upto now.front) → at ≡ length now.front → length entries ≡ at - old.upto
-    → new.first ≡ old.first → new.upto ≡ old.upto → Appends old.bytes new.bytes (take sent (entry_lines (old.upto - old.first) (journaled entries))) → (head : Option (List ℕ)) → IsNoted head before.front old → IsCutShort head now.front new
+    → new.first ≡ old.first → new.upto ≡ old.upto → IsCutOff old.bytes new.bytes (entry_lines (old.upto - old.first) (journaled entries)) sent → (head : Option (List ℕ)) → IsNoted head before.front old → IsCutShort head now.front new
 notes_part {A} before now old new most at sent entries kept are long whole same to out head is =
     let history : List (Entry A) = now.front in
     let noted = noted_on head before.front history old is kept.seen.begins in
     let front : List ℕ = lines_from old.first (take old.upto history) in
     let lines : List ℕ = entry_lines (old.upto - old.first) (journaled entries) in
-    let both : front ++ lines ≡ lines_from old.first history = both_lines history old entries noted.from noted.few (all_entries most old.upto at history entries are long whole) in
+    let both : front ++ lines ≡ lines_from new.first history =
+    both_lines history old entries noted.from noted.few (all_entries most old.upto at history entries are long whole) ∙ ap (λ (k : ℕ). lines_from k history) (sym same) in
     let part : front ++ take sent lines ≡ take (length front + sent) (lines_from new.first history) =
-    sym (take-append-add front lines sent) ∙ ap (λ (l : List ℕ). take (length front + sent) l) (both ∙ ap (λ (k : ℕ). lines_from k history) (sym same)) in
-    let named : lines_from new.first (take new.upto history) ≡ front =
-    ap (λ (k : ℕ). lines_from k (take new.upto history)) same ∙ ap (λ (k : ℕ). lines_from old.first (take k history)) to in
-    let size : length (lines_from new.first (take new.upto history)) ≡ length front = ap (λ (l : List ℕ). length l) named in
+    sym (take-append-add front lines sent) ∙ ap (λ (l : List ℕ). take (length front + sent) l) both in
+    let size : length (lines_from new.first (take new.upto history)) ≡ length front = ap (λ (l : List ℕ). length l) (same_lines history old new same to) in
+    let most_sent : length (lines_from new.first history) ≡ length front + length lines = ap (λ (l : List ℕ). length l) (sym both) ∙ length-append front lines in
     record {
       from = omega (arith, same, to, noted.from);
       few = omega (arith, to, noted.few);
       sent = length front + sent;
       reached = omega (arith, size);
-      bytes = subst (λ (l : List ℕ). Appends head new.bytes l) part (Appends-trans head old.bytes new.bytes front (take sent lines) noted.bytes out);
+      cut = record {
+        missing = omega (arith, out.missing, most_sent);
+        front = subst (λ (l : List ℕ). Appends head new.bytes l) part (Appends-trans head old.bytes new.bytes front (take sent lines) noted.bytes out.front);
+      };
+    }
+
+-- all of them were
+notes_unsynced : {A : Type 0} (before now : SeatContent A) (old new : JournalContent) (most at : ℕ) (entries : List (Entry A)) → KeepsZone before now → entries ≡ take most (drop old.upto now.front) → at ≡ length now.front → length entries ≡ at - old.upto
+    → new.first ≡ old.first → new.upto ≡ old.upto → Appends old.bytes new.bytes (entry_lines (old.upto - old.first) (journaled entries)) → (head : Option (List ℕ)) → IsNoted head before.front old → IsUnsynced head now.front new
+notes_unsynced {A} before now old new most at entries kept are long whole same to out head is =
+    let history : List (Entry A) = now.front in
+    let noted = noted_on head before.front history old is kept.seen.begins in
+    let front : List ℕ = lines_from old.first (take old.upto history) in
+    let lines : List ℕ = entry_lines (old.upto - old.first) (journaled entries) in
+    let both : front ++ lines ≡ lines_from new.first history =
+    both_lines history old entries noted.from noted.few (all_entries most old.upto at history entries are long whole) ∙ ap (λ (k : ℕ). lines_from k history) (sym same) in
+    record {
+      from = omega (arith, same, to, noted.from);
+      few = omega (arith, to, noted.few);
+      bytes = subst (λ (l : List ℕ). Appends head new.bytes l) both (Appends-trans head old.bytes new.bytes front lines noted.bytes out);
     }
 
 -- they weren't all written
 pub notes_less : {A : Type 0} (before now : SeatContent A) (old new : JournalContent) (most at : ℕ) (entries : List (Entry A)) (fault : JournalFault) → KeepsZone before now → entries ≡ take most (drop old.upto now.front) → at ≡ length now.front
     → length entries ≡ at - old.upto → new.first ≡ old.first → new.upto ≡ old.upto → (fault ≡ Memory → new ≡ old) → ((fault ≡ Memory → ⊥) → new.fault ≡ Some fault)
-    → (sent : ℕ) × Appends old.bytes new.bytes (take sent (entry_lines (old.upto - old.first) (journaled entries))) → FallsShort before now old new fault
+    → IsGivenPart old.bytes new.bytes (entry_lines (old.upto - old.first) (journaled entries)) fault → FallsShort before now old new fault
 notes_less before now old new most at entries Memory kept are long whole same to as_it_was named part = as_it_was refl
 notes_less before now old new most at entries Write kept are long whole same to as_it_was named (sent, out) = λ head is.
     (notes_part before now old new most at sent entries kept are long whole same to out head is, to, named (λ e. absurd (cc e)))
-notes_less before now old new most at entries Sync kept are long whole same to as_it_was named (sent, out) = λ head is.
-    (notes_part before now old new most at sent entries kept are long whole same to out head is, to, named (λ e. absurd (cc e)))
+notes_less before now old new most at entries Sync kept are long whole same to as_it_was named out = λ head is.
+    (notes_unsynced before now old new most at entries kept are long whole same to out head is, to, named (λ e. absurd (cc e)))
 
 -- a journal that has failed before
 pub failed_before : {A : Type 0} (before now : SeatContent A) (journal : JournalContent) (fault : JournalFault) → journal.fault ≡ Some fault → FallsShort before now journal journal fault

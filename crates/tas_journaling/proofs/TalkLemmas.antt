@@ -329,10 +329,9 @@ kept_ends {A} head answered last old new all more is =
 
 short_ends : {A : Type 0} (head : Option (List ℕ)) (before now : SeatContent A) (old new : JournalContent) (fault : JournalFault) → HasAll head before.front old → IsPrefix before.front now.front → FallsShort before now old new fault
     → JournalEnds head before.front now.front new (Err (Journal fault))
-short_ends head before now old new journal.Memory all more short =
-    let kept = kept_ends head before.front now.front old new all more short in (inl kept.0, kept.1)
-short_ends head before now old new journal.Write all more short = let cut = short head all.noted in (inr cut.0, cut.1 ∙ all.all)
-short_ends head before now old new journal.Sync all more short = let cut = short head all.noted in (inr cut.0, cut.1 ∙ all.all)
+short_ends head before now old new journal.Memory all more short = kept_ends head before.front now.front old new all more short
+short_ends head before now old new journal.Write all more short = let cut = short head all.noted in (cut.0, cut.1 ∙ all.all)
+short_ends head before now old new journal.Sync all more short = let cut = short head all.noted in (cut.0, cut.1 ∙ all.all)
 
 journal_ends : {A : Type 0} (head : Option (List ℕ)) (before now : SeatContent A) (old new : JournalContent) (fault : RunFault) → HasAll head before.front old → IsPrefix before.front now.front → BreaksJournal before now old new (Tool (Run fault))
     → JournalEnds head before.front now.front new (Err (Tool (Run fault)))

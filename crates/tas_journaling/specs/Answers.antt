@@ -11,7 +11,7 @@ use Rattle.tas_journaling.specs.declared.journal.JournalFault.{JournalFault}
 use Rattle.tas_journaling.specs.declared.journal.JournalFault.TheVariants as journal
 use Rattle.tas_journaling.specs.declared.answering.AnswerFault.{AnswerFault}
 use Rattle.tas_journaling.specs.declared.answering.AnswerFault.TheVariants.{Talk, Journal, Write}
-use Rattle.tas_journaling.specs.Journals.{JournalContent, IsNoted, HasAll, IsCutShort}
+use Rattle.tas_journaling.specs.Journals.{JournalContent, IsNoted, HasAll, HasLess}
 
 -- a request is answered as in a conversation without a journal, by a seat that was then shown the history
 pub record IsAnsweredAndShown {A : Type 0} (before now : TalkingSeat A) (request : Request) (answer : List ℕ) : Type 0 where
@@ -26,7 +26,7 @@ KeepsUp before now old new = (head : Option (List ℕ)) → IsNoted head before.
 -- why the journal has not all of it: memory was refused, and it is as it was; or it takes no more lines
 abbrev pub FallsShort : {A : Type 0} → (before now : SeatContent A) → (old new : JournalContent) → JournalFault → Type 0
 FallsShort before now old new journal.Memory = new ≡ old
-FallsShort before now old new fault = (head : Option (List ℕ)) → IsNoted head before.front old → IsCutShort head now.front new × (new.upto ≡ old.upto) × (new.fault ≡ Some fault)
+FallsShort before now old new fault = (head : Option (List ℕ)) → IsNoted head before.front old → HasLess head now.front new fault × (new.upto ≡ old.upto) × (new.fault ≡ Some fault)
 
 -- what came of a request: its answer is out, of `size` bytes, and before it the journal had all that the seat has seen; it asks for the end; it isn't answered;
 -- its answer was cut off, and before it the journal had all; or the journal hasn't all, and nothing of its answer is out
@@ -39,3 +39,11 @@ IsNotedAnswer before now request journal journal' output output' (Err (Write sen
     (answer : List ℕ) × IsAnsweredAndShown before now request answer × IsCutOff output output' answer sent × KeepsUp before.seat now.seat journal journal'
 IsNotedAnswer before now request journal journal' output output' (Err (Journal fault)) =
     (answer : List ℕ) × IsAnsweredAndShown before now request answer × (output' ≡ output) × FallsShort before.seat now.seat journal journal' fault
+
+-- what is said to be on the disk is there wherever something of an answer is out
+abbrev pub IsKeptBefore : (kept : Type 0) → Result (Option ℕ) AnswerFault → Type 0
+IsKeptBefore kept (Ok (Some size)) = kept
+IsKeptBefore kept (Ok None) = Unit {0}
+IsKeptBefore kept (Err (Talk fault)) = Unit {0}
+IsKeptBefore kept (Err (Write sent)) = kept
+IsKeptBefore kept (Err (Journal fault)) = Unit {0}

@@ -1,5 +1,5 @@
 -- A conversation with a journal: a seat's conversation whose answers wait for the journal.
-use Rattle.std.specs.Prelude.{◌≡◌, ℕ, List, [], ◌∷◌, ◌++◌, length, Option, None, Result, Ok, Err, ◌⊎◌}
+use Rattle.std.specs.Prelude.{◌≡◌, ℕ, List, [], ◌∷◌, ◌++◌, length, Option, None, Result, Ok, Err}
 use Rattle.std.specs.Io.KnownBytes.{Appends, Consumes}
 use Rattle.tas_movie.specs.declared.edit.Edit.{Edit}
 use Rattle.tas_published.specs.declared.entry.Entry.{Entry}
@@ -10,7 +10,7 @@ use Rattle.tas_seat.specs.Conversations.{TalkingSeat, talking}
 use Rattle.tas_seat.specs.Talk.{Exchange, IsExchange, TalkEnds, IsCarriedOut, lines_of, answers_of}
 use Rattle.tas_journaling.specs.declared.talking.TalkFault.{TalkFault}
 use Rattle.tas_journaling.specs.declared.talking.TalkFault.TheVariants.{Tool, Journal}
-use Rattle.tas_journaling.specs.Journals.{JournalContent, IsNoted, HasAll, IsCutShort}
+use Rattle.tas_journaling.specs.Journals.{JournalContent, IsNoted, HasAll, HasLess}
 
 -- what a conversation reads from and writes to: the bytes that are left of its lines, those that the writer of its answers holds, and its journal
 pub record Ways : Type 0 where
@@ -33,12 +33,12 @@ NotedEnds seat last rest told edits input output output' (Err (Journal fault)) =
 
 -- what its journal has then, where `answered` is what the seat had seen after the last answer that is out whole, and `last` what it has seen in the
 -- end: the lines of all that the seat has seen, also where an answer was cut off; where a line isn't answered, those of all that it had seen after
--- the last answer; and where the journal failed, perhaps some first bytes of the next ones after these
+-- the last answer; and where the journal failed, after these some first bytes of the next ones, all of these, or none, by the fault
 abbrev pub JournalEnds : {A : Type 0} → (head : Option (List ℕ)) → (answered last : List (Entry A)) → JournalContent → Result (Unit {0}) TalkFault → Type 0
 JournalEnds head answered last journal (Ok done) = HasAll head last journal
 JournalEnds head answered last journal (Err (Tool (Run (Write written)))) = HasAll head last journal
 JournalEnds head answered last journal (Err (Tool fault)) = IsNoted head last journal × (journal.upto ≡ length answered)
-JournalEnds head answered last journal (Err (Journal fault)) = (IsNoted head last journal ⊎ IsCutShort head last journal) × (journal.upto ≡ length answered)
+JournalEnds head answered last journal (Err (Journal fault)) = HasLess head last journal fault × (journal.upto ≡ length answered)
 
 -- a conversation with a journal that had its head and the lines of all that the seat had seen. Without a draft it begins, and one that is open at
 -- the end is lost

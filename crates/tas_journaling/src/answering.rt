@@ -6,7 +6,7 @@ ghost use Rattle.byte_text.specs.CutOff.{IsCutOff};
 ghost use Rattle.tas_engines.specs.declared.fault.RunFault.TheVariants.{NoEntry};
 ghost use Rattle.tas_seat.specs.Conversations.{talking};
 ghost use Rattle.tas_seat.specs.Outcomes.{IsLook};
-ghost use Rattle.tas_journaling.specs.Answers.{IsNotedAnswer};
+ghost use Rattle.tas_journaling.specs.Answers.{IsKeptBefore, IsNotedAnswer};
 ghost use Rattle.tas_journaling.specs.declared.answering.AnswerFault.TheVariants.{Talk as Unanswered};
 
 use crate::{Journal, JournalFault, JournalFile};
@@ -79,6 +79,12 @@ pub fn answer_noted<
     // Refused: answer_goes_out_before_its_entry, refusal_of_the_journal_comes_after_the_first_byte.
     ensures answer { IsNotedAnswer (talking seat.old draft.old) (talking seat.new draft.new) request
         journal.old journal.new (W.contents output.old) (W.contents output.new) result }
+    // All that the journal's file holds is on the disk before the answer's first byte is out.
+    // Refused: none, see `Journal::note`.
+    ensures kept { IsKeptBefore (J.kept journal.new.bytes) result }
+    // The first line of the journal stays that of the same entry.
+    // Refused: none, see `Journal::note`.
+    ensures first { journal.new.first ≡ journal.old.first }
     // A journal that failed before stays as it is, and nothing of an answer goes out.
     // Refused: answer_goes_out_after_a_failed_journal.
     ensures failed { (fault : JournalFault) → journal.old.fault ≡ Some fault

@@ -3,12 +3,13 @@
 //! Entries are copied under the desk's lock and written outside it. Each is written once: a journal counts the entries of the history that
 //! it has. A file that failed takes nothing more, since what follows a part of a line would be no journal.
 
-ghost use Rattle.std.specs.Prelude.{◌≡◌, ◌+◌, ◌-◌, ◌<◌, ◌^◌, ℕ, None, Some, Err, length, take, min, IfOk, IfErr, OnOk, OnErr};
+ghost use Rattle.std.specs.Prelude.{◌≡◌, ◌+◌, ◌-◌, ◌<◌, ◌^◌, ◌↔◌, None, Some, Err, length, min, IfOk, IfErr, IsTrue, OnOk, OnErr};
 ghost use Rattle.std.specs.Io.KnownBytes.{Appends};
 ghost use Rattle.tas_desk.specs.Seats.{KeepsZone};
 ghost use Rattle.tas_journal.specs.Text.{entry_lines, head_text};
-ghost use Rattle.tas_journaling.specs.Journals.{journaled};
+ghost use Rattle.tas_journaling.specs.Journals.{journaled, IsGivenPart};
 ghost use Rattle.tas_journaling.specs.Answers.{FallsShort, KeepsUp};
+ghost use Rattle.tas_journaling.specs.Shared.{IsBlankOn};
 ghost use Rattle.tas_journaling.specs.declared.journal.JournalFault.TheVariants.{Memory};
 
 use byte_text::write_counted;
@@ -24,9 +25,15 @@ use thiserror::Error;
 
 /// What a journal is written to.
 pub trait JournalFile: Write + Drop {
+    ghost use Rattle.std.specs.Prelude.{ℕ, List, Option};
+
+    // That these bytes of such a file are on the disk, where something is known of it.
+    ghost kept: { Option (List ℕ) → Type 0 } = { λ _. Unit {0} };
+
     /// Brings all that was written to the disk. An error where that isn't sure.
     fn sync(&mut self) -> io::Result<()>
-        ensures { Self.contents self.new ≡ Self.contents self.old };
+        ensures same { Self.contents self.new ≡ Self.contents self.old }
+        ensures kept { OnOk result (kept (Self.contents self.old)) };
 }
 
 /// Why a journal hasn't all lines.
@@ -43,8 +50,8 @@ pub enum JournalFault {
     Memory,
 }
 
-/// A journal that is written. Contracts see with which entry of the history its first line is, how many entries of the history come before
-/// the next line, why it takes no more lines, and what its file holds.
+/// A journal that is written: its head was written whole. Contracts see with which entry of the history its first line is, how many entries of
+/// the history come before the next line, why it takes no more lines, and what its file holds. Without a fault, this is on the disk.
 #[derive(Drop)]
 pub struct Journal<J: JournalFile> {
     file: J,
@@ -54,6 +61,7 @@ pub struct Journal<J: JournalFile> {
 }
 
 impl<J: JournalFile> Model for Journal<J> {
+    ghost use Rattle.std.specs.Prelude.{◌≡◌, None};
     ghost use Rattle.tas_journaling.specs.Journals.{JournalContent};
 
     ghost Value = { JournalContent };
@@ -64,64 +72,77 @@ impl<J: JournalFile> Model for Journal<J> {
       fault = j.fault;
       bytes = J.contents j.file;
     } };
+
+    ghost invariant = { λ j. j.fault ≡ None → J.kept (J.contents j.file) };
 }
 
 impl<J: JournalFile> Journal<J> {
-    /// Writes the head of a journal that begins with this movie to a file, which should have nothing yet, and brings it to the disk. The
-    /// first line will be that of the history's entry `first`, counted from 0.
+    /// Writes the head of a journal that begins with this movie to a file, which should have nothing yet, and brings it to the disk. The first
+    /// line will be that of the history's entry `first`, counted from 0.
     ///
-    /// Faults: `Memory`, with nothing written; `Write` and `Sync`, with some of the head's bytes written.
+    /// Faults, each with the file: `Memory`, with nothing written; `Write` and `Sync`, with some of the head's bytes written, or all.
     pub fn begin<A: Allocator + Copy, B: Allocator>(
         alloc: A,
-        file: J,
+        mut file: J,
         movie: &Movie<B>,
         first: u64,
-    ) -> Result<Journal<J>, JournalFault>
+    ) -> Result<Journal<J>, (J, JournalFault)>
         // A journal begins with the head of its movie, and has no line yet and no fault.
         // Refused: journal_begins_one_entry_later, journal_begins_without_its_head.
         ensures first { IfOk result (λ journal. (journal.first ≡ first) × (journal.upto ≡ first)) }
         ensures whole { IfOk result (λ journal. journal.fault ≡ None) }
         ensures head { IfOk result
             (λ journal. Appends (J.contents file) journal.bytes (head_text movie.now)) }
+        // The head is on the disk then.
+        // Refused: none, see `Journal::note`.
+        ensures kept { IfOk result (λ journal. J.kept journal.bytes) }
+        // Where it doesn't begin, the file comes back. It has some first bytes of the head, all of them, or none, by the fault:
+        // where memory was refused, it is as it was.
+        // Refused: cut_head_is_reported_as_refused_memory.
+        ensures back { IfErr result (λ back.
+            IsGivenPart (J.contents file) (J.contents back.0) (head_text movie.now) back.1) }
     {
-        let Ok(head) = write_head(alloc, movie) else {
-            return Err(JournalFault::Memory);
-        };
-        let mut journal = Journal {
-            file,
-            first,
-            upto: first,
-            fault: None,
-        };
-        journal.append(head.as_slice())?;
-        Ok(journal)
+        match put_head(alloc, movie, &mut file) {
+            Ok(()) => Ok(Journal {
+                file,
+                first,
+                upto: first,
+                fault: None,
+            }),
+            Err(fault) => Err((file, fault)),
+        }
     }
 
     /// Ends it, and returns what it was written to.
     pub fn into_file(self) -> J
         // Refused: none, its result's type leaves nothing else to return.
-        ensures { J.contents result ≡ self.bytes }
+        ensures bytes { J.contents result ≡ self.bytes }
+        // All that the file of a journal without a fault holds is on the disk.
+        // Refused: none, see `Journal::note`.
+        ensures kept { self.fault ≡ None → J.kept self.bytes }
     {
         self.file
     }
 
-    /// Writes some bytes and brings them to the disk.
-    fn append(&mut self, bytes: &[u8]) -> Result<(), JournalFault>
-        ensures first { self.new.first ≡ self.old.first }
-        ensures upto { self.new.upto ≡ self.old.upto }
-        ensures fault { self.new.fault ≡ self.old.fault }
-        ensures done { OnOk result (Appends self.old.bytes self.new.bytes bytes.now) }
-        ensures cut { OnErr result ((sent : ℕ)
-            × Appends self.old.bytes self.new.bytes (take sent bytes.now)) }
-        ensures error { IfErr result (λ fault. fault ≡ Memory → ⊥) }
+    /// Whether it has no fault and no line, and its first line is that of one of a history's first `at` entries, or the next.
+    pub(crate) fn is_blank(&self, at: u64) -> bool
+        ensures { IsTrue result ↔ IsBlankOn at self.now }
     {
-        if let Err(_) = write_counted(bytes, 0, &mut self.file) {
-            return Err(JournalFault::Write);
-        }
-        if let Err(_) = self.file.sync() {
-            return Err(JournalFault::Sync);
-        }
-        Ok(())
+        self.fault.is_none() && self.upto == self.first && self.upto <= at
+    }
+
+    /// How many entries of the history come before the next line.
+    pub(crate) fn upto(&self) -> u64
+        ensures { result ≡ self.now.upto }
+    {
+        self.upto
+    }
+
+    /// Why it takes no more lines.
+    pub(crate) fn fault(&self) -> Option<JournalFault>
+        ensures { result ≡ self.now.fault }
+    {
+        self.fault
     }
 
     /// Writes the lines of the entries that follow those that it has, of a history of `at` entries.
@@ -138,18 +159,19 @@ impl<J: JournalFile> Journal<J> {
         ensures fault { OnOk result (self.new.fault ≡ self.old.fault) }
         ensures done { OnOk result (Appends self.old.bytes self.new.bytes
             (entry_lines (self.old.upto - self.old.first) (journaled entries.now))) }
+        ensures disk { OnOk result (J.kept self.new.bytes) }
         ensures kept { OnErr result (self.new.upto ≡ self.old.upto) }
         ensures memory { IfErr result (λ fault. fault ≡ Memory → self.new ≡ self.old) }
         ensures named { IfErr result
             (λ fault. (fault ≡ Memory → ⊥) → self.new.fault ≡ Some fault) }
-        ensures cut { OnErr result ((sent : ℕ) × Appends self.old.bytes self.new.bytes
-            (take sent (entry_lines (self.old.upto - self.old.first) (journaled entries.now)))) }
+        ensures cut { IfErr result (IsGivenPart self.old.bytes self.new.bytes
+            (entry_lines (self.old.upto - self.old.first) (journaled entries.now))) }
     {
         let number = self.upto.saturating_sub(self.first);
         let Ok(lines) = journal_lines(alloc, number, entries) else {
             return Err(JournalFault::Memory);
         };
-        if let Err(fault) = self.append(lines.as_slice()) {
+        if let Err(fault) = append(&mut self.file, lines.as_slice()) {
             self.fault = Some(fault);
             return Err(fault);
         }
@@ -170,13 +192,20 @@ impl<J: JournalFile> Journal<J> {
         seat: &mut Seat<N, A>,
     ) -> Result<(), JournalFault>
         ensures seat { KeepsZone seat.old seat.new }
+        // Its first line stays that of the same entry.
+        // Refused: journal_forgets_what_it_lacks.
+        ensures first { self.new.first ≡ self.old.first }
         // A journal whose file had its head and the lines of a beginning of what the seat had seen has those of all that the
         // seat has seen then: each entry's line once, in order, whoever made it, and nothing else. After a fault it has
-        // the old lines and some first bytes of the next ones; memory that is refused leaves it as it was.
+        // the old lines and some first bytes of the next ones, fewer than all, or all of them where they can't be brought to
+        // the disk; memory that is refused leaves it as it was.
         // Refused: entry_of_a_journal_is_written_twice, entry_of_a_journal_is_left_out,
         // entry_of_another_seat_is_left_out, lines_of_a_journal_begin_at_one.
         ensures done { OnOk result (KeepsUp seat.old seat.new self.old self.new) }
         ensures fault { IfErr result (FallsShort seat.old seat.new self.old self.new) }
+        // All that its file holds is on the disk then.
+        // Refused: journal_is_not_brought_to_the_disk.
+        ensures kept { OnOk result (J.kept self.new.bytes) }
         // A journal with a fault takes no more lines.
         // Refused: failed_journal_takes_more_lines.
         ensures failed { (fault : _) → self.old.fault ≡ Some fault
@@ -197,6 +226,41 @@ impl<J: JournalFile> Journal<J> {
         }
         Ok(())
     }
+}
+
+/// Writes the head of a journal that begins with this movie, and brings it to the disk.
+fn put_head<A: Allocator + Copy, B: Allocator, J: JournalFile>(
+    alloc: A,
+    movie: &Movie<B>,
+    file: &mut J,
+) -> Result<(), JournalFault>
+    ensures done { OnOk result
+        (Appends (J.contents file.old) (J.contents file.new) (head_text movie.now)) }
+    ensures kept { OnOk result (J.kept (J.contents file.new)) }
+    ensures cut { IfErr result
+        (IsGivenPart (J.contents file.old) (J.contents file.new) (head_text movie.now)) }
+{
+    let Ok(head) = write_head(alloc, movie) else {
+        return Err(JournalFault::Memory);
+    };
+    append(file, head.as_slice())
+}
+
+/// Writes some bytes to a journal's file, and brings them to the disk.
+fn append<J: JournalFile>(file: &mut J, bytes: &[u8]) -> Result<(), JournalFault>
+    ensures done { OnOk result (Appends (J.contents file.old) (J.contents file.new) bytes.now) }
+    ensures kept { OnOk result (J.kept (J.contents file.new)) }
+    ensures cut { IfErr result
+        (IsGivenPart (J.contents file.old) (J.contents file.new) bytes.now) }
+    ensures error { IfErr result (λ fault. fault ≡ Memory → ⊥) }
+{
+    if let Err(_) = write_counted(bytes, 0, file) {
+        return Err(JournalFault::Write);
+    }
+    if let Err(_) = file.sync() {
+        return Err(JournalFault::Sync);
+    }
+    Ok(())
 }
 
 /// The lines of some entries, the first of which has this number.

@@ -5,8 +5,14 @@
 
 mod answering;
 mod journal;
+mod laws;
+mod receipts;
+mod shared_journal;
 mod talking;
 
 pub use answering::{AnswerFault, answer_noted};
 pub use journal::{Journal, JournalFault, JournalFile};
+pub use laws::receipts_are_kept;
+pub use receipts::{JournalName, JournalReceipt, Known, ReceiptRule, Tally};
+pub use shared_journal::SharedJournal;
 pub use talking::{TalkFault, converse_noted};

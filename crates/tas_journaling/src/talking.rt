@@ -85,7 +85,8 @@ fn answer_line<N: Name, C: CloseOnDrop, A: Allocator + Copy, R: Wait, W: Write, 
     line: &Line<A>,
     output: &mut W,
 ) -> Result<Option<usize>, TalkFault>
-    ensures { (said : List ℕ) → HoldsLine said line.now.bytes.items line.now.long
+    ensures first { journal.new.first ≡ journal.old.first }
+    ensures turn { (said : List ℕ) → HoldsLine said line.now.bytes.items line.now.long
         → NoByte 10 said
         → IsNotedTurn (talking seat.old draft.old) (talking seat.new draft.new)
         journal.old journal.new said written
@@ -115,7 +116,8 @@ fn answer_part<N: Name, C: CloseOnDrop, A: Allocator + Copy, R: Wait, W: Write, 
     part: &[u8],
     output: &mut W,
 ) -> Result<Option<usize>, TalkFault>
-    ensures { (start : SeatContent A) → (first : Ways) → (input : Option (List ℕ))
+    ensures first { journal.new.first ≡ journal.old.first }
+    ensures turn { (start : SeatContent A) → (first : Ways) → (input : Option (List ℕ))
         → (said : List ℕ) → HoldsLine said line.old.bytes.items line.old.long
         → NoByte 10 said
         → IsUnderway start first (talking seat.old draft.old) before
@@ -197,7 +199,7 @@ pub fn converse_noted<
     // had seen after the last answer; where the journal failed, after these perhaps some first bytes of the next ones. As the
     // writers of answers and journal may fail at each byte, so it is at each moment.
     // Refused: noted_line_is_answered_without_its_journal, conversation_goes_on_after_a_failed_journal.
-    ensures { IsNotedTalk seat.old seat.new
+    ensures talk { IsNotedTalk seat.old seat.new
         (record {
           input = R.remaining input.old;
           output = W.contents output.old;
@@ -208,6 +210,9 @@ pub fn converse_noted<
           output = W.contents output.new;
           journal = journal.new;
         }) result }
+    // The first line of the journal stays that of the same entry.
+    // Refused: none, see `Journal::note`.
+    ensures first { journal.new.first ≡ journal.old.first }
 {
     let Ok(mut line) = Line::new(alloc) else {
         return Err(TalkFault::Tool(ToolFault::Run(RunFault::Memory)));

@@ -2,11 +2,14 @@
 
 ghost use Rattle.std.specs.Prelude.{Some};
 
+use crate::checks::{expect_ok, expect_some};
 use std::alloc::Global;
 use std::io;
 use std::io::{Error, ErrorKind, Write};
+use std::process::Abort;
 use std::sync::atomic::{AtomicU64, Ordering};
-use tas_journaling::JournalFile;
+use tas_journaling::{Journal, JournalFile};
+use tas_movie::Movie;
 use test_streams::{Failure, Room, Taker};
 
 /// A file with so much room that can be brought to the disk so many times, and fails from then on.
@@ -50,6 +53,12 @@ impl JournalFile for Disk<'_> {
         self.done.fetch_add(1, Ordering::SeqCst);
         Ok(())
     }
+}
+
+/// A journal in this file that begins with a blank movie, the first line of which will be that of this entry.
+pub fn begin<'a, R: Abort>(rt: &R, alloc: Global, disk: Disk<'a>, first: u64) -> Journal<Disk<'a>> {
+    let movie = expect_ok(rt, Movie::blank(alloc));
+    expect_some(rt, Journal::begin(alloc, disk, &movie, first).ok())
 }
 
 /// A writer of answers that keeps how often a journal had been brought to the disk at each of its writes.

@@ -4,7 +4,7 @@ ghost use Rattle.std.specs.Prelude.{◌≡◌};
 ghost use Rattle.tas_desk.specs.Seats.{name_of};
 
 use crate::checks::{check_same, check_that, expect_ok, expect_some};
-use crate::disks::{Disk, Watcher};
+use crate::disks::{Disk, Watcher, begin};
 use crate::talks::{
     AMPLE, ANSWERS, Means, PARTS, answered_with, check_left, first_parts, hold, size_of,
 };
@@ -15,9 +15,9 @@ use std::sync::Wait;
 use std::sync::atomic::AtomicU64;
 use tas_desk::{Desk, Name, Unopened};
 use tas_engines::RunFault;
-use tas_journaling::{AnswerFault, Journal, JournalFault, answer_noted};
+use tas_journaling::{AnswerFault, JournalFault, answer_noted};
 use tas_language::parse_request;
-use tas_movie::{Edit, Inputs, Movie};
+use tas_movie::{Edit, Inputs};
 use vcs_machine::Input;
 
 /// An edit is on the disk before the first byte of its answer; the edits of a commit are brought there at once.
@@ -42,6 +42,7 @@ fn a_full_disk_ends_a_conversation(rt: HostRuntime) {
     let room = head.saturating_sub(1);
     let none = hold(&rt, alloc, Means { room, ..AMPLE });
     check_same(&rt, "head", none.fault, full);
+    check_same(&rt, "head", none.file.len(), room);
     for room in head..size_of(&PARTS, 6) {
         let left = hold(&rt, alloc, Means { room, ..AMPLE });
         check_left(&rt, alloc, ("room", room), &left);
@@ -53,7 +54,7 @@ fn a_full_disk_ends_a_conversation(rt: HostRuntime) {
 }
 
 /// For each number of times that a file is brought to the disk: how many parts it has, and how many answers are out.
-static SYNCS: [(u64, usize, usize); 5] = [(0, 0, 0), (1, 2, 0), (2, 3, 6), (3, 5, 10), (4, 6, 11)];
+static SYNCS: [(u64, usize, usize); 5] = [(0, 1, 0), (1, 2, 0), (2, 3, 6), (3, 5, 10), (4, 6, 11)];
 
 /// A disk that fails leaves the lines of the edit, and its answer doesn't go out.
 #[test]
@@ -143,11 +144,10 @@ fn hold_beside<N: Name, R: Wait + Abort>(rt: &R, alloc: Global, unopened: Unopen
 {
     let (desk, mut seats) = expect_ok(rt, Desk::<N, &R>::open(rt, alloc, unopened));
     check_that(rt, "two seats", seats.len() == 2);
-    let movie = expect_ok(rt, Movie::blank(alloc));
     let done = AtomicU64::new(0);
     let disk = Disk::new(alloc, 1_000, 10, &done);
     let mut output = Watcher::new(alloc, 1_000, &done);
-    let mut journal = expect_ok(rt, Journal::begin(alloc, disk, &movie, 0));
+    let mut journal = begin(rt, alloc, disk, 0);
     let inputs = expect_ok(rt, Inputs::repeated(alloc, Input::none(), 2));
     expect_ok(
         rt,

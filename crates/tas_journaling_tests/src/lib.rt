@@ -2,6 +2,8 @@
 #![tactic(auto)]
 
 #[cfg(test)]
+mod begin_tests;
+#[cfg(test)]
 mod checks;
 #[cfg(test)]
 mod disks;
@@ -9,6 +11,10 @@ mod disks;
 mod journal_tests;
 #[cfg(test)]
 mod line_talks;
+#[cfg(test)]
+mod shared_fault_tests;
+#[cfg(test)]
+mod shared_tests;
 #[cfg(test)]
 mod talk_tests;
 #[cfg(test)]

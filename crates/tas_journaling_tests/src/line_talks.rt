@@ -20,7 +20,7 @@ use test_streams::Giver;
 /// What a conversation leaves.
 #[derive(Drop)]
 pub struct Talked {
-    /// What the journal's file has; nothing where its head wasn't written.
+    /// What the journal's file has.
     pub file: Vec<u8>,
     /// What the answers' writer has.
     pub answers: Vec<u8>,
@@ -63,7 +63,7 @@ fn talk_at<'a, N: Name, R: Wait + Abort>(
     let done = AtomicU64::new(0);
     let disk = Disk::new(alloc, means.room, means.syncs, &done);
     let mut output = Watcher::new(alloc, means.answers, &done);
-    let (file, end) = match Journal::begin(alloc, disk, &movie, 0) {
+    let (disk, end) = match Journal::begin(alloc, disk, &movie, 0) {
         Ok(mut journal) => {
             heap.refuse(means.growth);
             let end = converse_noted(
@@ -75,10 +75,11 @@ fn talk_at<'a, N: Name, R: Wait + Abort>(
                 input,
                 &mut output,
             );
-            (journal.into_file().taker.taken, end)
+            (journal.into_file(), end)
         }
-        Err(fault) => (Vec::new(alloc), Err(TalkFault::Journal(fault))),
+        Err((disk, fault)) => (disk, Err(TalkFault::Journal(fault))),
     };
+    let file = disk.taker.taken;
     let refused = heap.has_refused();
     check_that(rt, "all seats come back", desk.whole(seats.as_slice()));
     let closed = desk.close(rt, seats);

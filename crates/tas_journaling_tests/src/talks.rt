@@ -87,7 +87,7 @@ pub const AMPLE: Means = Means {
 /// What a conversation leaves.
 #[derive(Drop)]
 pub struct Left {
-    /// What the journal's file has; nothing where its head wasn't written.
+    /// What the journal's file has.
     pub file: Vec<u8>,
     /// What the answers' writer has.
     pub answers: Vec<u8>,
@@ -150,14 +150,15 @@ fn hold_at<'a, N: Name, R: Wait + Abort>(
     let done = AtomicU64::new(0);
     let disk = Disk::new(alloc, means.room, means.syncs, &done);
     let mut output = Watcher::new(alloc, means.answers, &done);
-    let (file, fault) = match Journal::begin(alloc, disk, &movie, 0) {
+    let (disk, fault) = match Journal::begin(alloc, disk, &movie, 0) {
         Ok(mut journal) => {
             heap.refuse(means.growth);
             let fault = say(rt, heap, &desk, &mut seats[0], &mut journal, &mut output);
-            (journal.into_file().taker.taken, fault)
+            (journal.into_file(), fault)
         }
-        Err(fault) => (Vec::new(alloc), Some(AnswerFault::Journal(fault))),
+        Err((disk, fault)) => (disk, Some(AnswerFault::Journal(fault))),
     };
+    let file = disk.taker.taken;
     let refused = heap.has_refused();
     check_that(rt, "all seats come back", desk.whole(seats.as_slice()));
     let closed = desk.close(rt, seats);

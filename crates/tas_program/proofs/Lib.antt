@@ -1,7 +1,9 @@
 pub mod DoorEndLemmas
 pub mod FileWordLemmas
+pub mod NotedLemmas
 pub mod PairLemmas
 pub mod ProgramLemmas
 pub mod SavingLemmas
+pub mod VerifyLemmas
 pub mod SearchLemmas
 pub mod TalkLemmas

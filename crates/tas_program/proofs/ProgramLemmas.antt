@@ -15,9 +15,9 @@ use Rattle.tas_words.specs.declared.invocation.Invocation.{Invocation}
 use Rattle.tas_words.specs.declared.invocation.Invocation.TheVariants.{Do, Save, Show, Refuse, NoMemory}
 use Rattle.tas_words.specs.declared.task.Task.{Task}
 use Rattle.tas_words.specs.Invocations.{AreGiven, IsInvocation, IsNoTask}
-use Rattle.tas_program.specs.Program.{IsAskedBy, end_status, OneFileRun, TwoFilesRun, FilesRun, EndsOver, OverOne, OverTwo, IsRunOfFiles, IsSaveRun, IsTaskRun, RunsAfter, TaskEnds}
+use Rattle.tas_program.specs.Program.{IsAskedBy, end_status, OneFileRun, TwoFilesRun, FilesRun, EndsOver, OverOne, OverTwo, IsRunOfFiles, IsSaveRun, IsTaskRun, RunsAfter, TaskEnds, talk_of}
 use Rattle.tas_program.specs.declared.status.TaskFault.{TaskFault}
-use Rattle.tas_program.specs.declared.status.TaskFault.TheVariants.{Word, Tool, Search as NotSearched, Recover as NotRecovered, Report, NoReport, Save as NotSaved}
+use Rattle.tas_program.specs.declared.status.TaskFault.TheVariants.{Word, Tool, Search as NotSearched, Recover as NotRecovered, Verify as NotVerified, NoCarts, NotAll, Report, NoReport, NoJournal, Journal as NotNoted, Save as NotSaved}
 use Rattle.tas_program.specs.declared.file_words.Permit.{Permit}
 use Rattle.tas_program.specs.declared.file_words.WordFault.{WordFault}
 use Rattle.tas_program.specs.FileWords.{WordsEnd, first_fault}
@@ -29,9 +29,9 @@ use Rattle.tas_program.specs.Saving.{FileSteps}
 use Rattle.tas_program.specs.Streams.{StreamBytes}
 
 -- a task isn't begun, since a word is at fault
-pub not_begun : (files : FileBytes) (chosen : Task) (old : StreamBytes) (end : Result Permit WordFault) (fault : WordFault) → end ≡ Err fault → WordsEnd files.shown chosen end
-    → IsTaskRun files chosen old old (Err (Word fault))
-not_begun files chosen old end fault is (seen, are, first) = (seen, are, rw (first, is) (refl, refl))
+pub not_begun : (steps : FileSteps) (files : FileBytes) (chosen : Task) (old : StreamBytes) (end : Result Permit WordFault) (fault : WordFault) → end ≡ Err fault → WordsEnd files.shown chosen end
+    → IsTaskRun steps files chosen old old (Err (Word fault))
+not_begun steps files chosen old end fault is (seen, are, first) = (seen, are, rw (first, is) (refl, refl))
 
 -- the same of a task whose output replaces a file
 pub not_saved : (steps : FileSteps) (files : FileBytes) (chosen : Task) (name : List ℕ) (old : StreamBytes) (end : Result Permit WordFault) (fault : WordFault) → end ≡ Err fault
@@ -39,19 +39,24 @@ pub not_saved : (steps : FileSteps) (files : FileBytes) (chosen : Task) (name : 
 not_saved steps files chosen name old end fault is (named, seen, file, words, inputs, shown, first) =
     (named, seen, file, words, inputs, shown, rw (first, is) (refl, refl))
 
-pub task_ends : (files : FileBytes) (chosen : Task) (old new : StreamBytes) (end : Result (Unit {0}) TaskFault) → IsTaskRun files chosen old new end → TaskEnds files chosen old new (end_status end)
-task_ends files chosen old new (Ok u) ran = ran
-task_ends files chosen old new (Err (Word fault)) ran = (fault, ran)
-task_ends files chosen old new (Err (Tool fault)) ran = (Tool fault, tt, ran)
-task_ends files chosen old new (Err (NotSearched e)) ran = (NotSearched e, tt, ran)
-task_ends files chosen old new (Err (NotRecovered fault)) ran = (NotRecovered fault, tt, ran)
-task_ends files chosen old new (Err (Report fault)) ran = (Report fault, tt, ran)
-task_ends files chosen old new (Err NoReport) ran = (NoReport, tt, ran)
-task_ends files chosen old new (Err (NotSaved fault)) (seen, are, ran) = absurd (go (first_fault seen) ran)
+pub task_ends : (steps : FileSteps) (files : FileBytes) (chosen : Task) (old new : StreamBytes) (end : Result (Unit {0}) TaskFault) → IsTaskRun steps files chosen old new end → TaskEnds steps files chosen old new (end_status end)
+task_ends steps files chosen old new (Ok u) ran = ran
+task_ends steps files chosen old new (Err (Word fault)) ran = (fault, ran)
+task_ends steps files chosen old new (Err (Tool fault)) ran = (Tool fault, tt, ran)
+task_ends steps files chosen old new (Err (NotSearched e)) ran = (NotSearched e, tt, ran)
+task_ends steps files chosen old new (Err (NotRecovered fault)) ran = (NotRecovered fault, tt, ran)
+task_ends steps files chosen old new (Err (NotVerified fault)) ran = (NotVerified fault, tt, ran)
+task_ends steps files chosen old new (Err NoCarts) ran = (NoCarts, tt, ran)
+task_ends steps files chosen old new (Err NotAll) ran = (NotAll, tt, ran)
+task_ends steps files chosen old new (Err (Report fault)) ran = (Report fault, tt, ran)
+task_ends steps files chosen old new (Err NoReport) ran = (NoReport, tt, ran)
+task_ends steps files chosen old new (Err NoJournal) ran = (NoJournal, tt, ran)
+task_ends steps files chosen old new (Err (NotNoted fault)) ran = (NotNoted fault, tt, ran)
+task_ends steps files chosen old new (Err (NotSaved fault)) (seen, are, ran) = absurd (go (first_fault seen) ran)
   where
-    go : (word : Option WordFault) → RunsAfter files chosen word old new (Err (NotSaved fault)) → ⊥
+    go : (word : Option WordFault) → RunsAfter steps files chosen word old new (Err (NotSaved fault)) → ⊥
     go (Some word) (is, same) = cc
-    go None ended = no_save_fault files (reported_of chosen) chosen old new fault ended
+    go None ended = no_save_fault steps files (reported_of chosen) (talk_of chosen) chosen old new fault ended
 
 -- a run ended over a file that was opened
 pub over_one : (ran : OneFileRun) (one file left : Option (List ℕ)) (old new : StreamBytes) (end : Result (Unit {0}) ToolFault) → file ≡ one

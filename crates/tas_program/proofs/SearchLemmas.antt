@@ -26,7 +26,11 @@ use Rattle.tas_journal.specs.RecoveryRun.{IsRecoveryRun}
 use Rattle.std.specs.Global.{Global as GlobalType}
 use Rattle.tas_program.specs.Reporting.{ReportedEnds, reported_of}
 use Rattle.tas_program.specs.Files.{FileBytes}
-use Rattle.tas_program.specs.Program.{DoesTask, EngineEnds, tool_end}
+use Rattle.tas_program.specs.Program.{DoesTask, EngineEnds, LeavesWords, talk_of, tool_end}
+use Rattle.tas_program.proofs.NotedLemmas.{no_talk_fault}
+use Rattle.tas_program.proofs.VerifyLemmas.{no_verify_fault}
+use Rattle.tas_movie.specs.Content.{MovieContent}
+use Rattle.tas_words.specs.declared.task.TalkWords.{TalkWords}
 use Rattle.tas_program.specs.Saving.{FileSteps, unknown_steps}
 use Rattle.tas_program.specs.Searching.{BreaksOff, IsReportFile, Reports, ReportsVerdict, RunsSearch, Searches, SearchesOver, bytes_end, search_end, search_files}
 use Rattle.tas_program.specs.Streams.{StreamBytes}
@@ -63,6 +67,7 @@ pub any_reported : (steps : FileSteps) (files : FileBytes) (words : Reported) (o
     → ReportedEnds unknown_steps files words old new told told' end
 any_reported steps files (reported.Search words) old new told told' end ends = any_steps steps files words old new told told' end ends
 any_reported steps files (reported.Recovery words) old new told told' end ends = ends
+any_reported steps files (reported.Verification words) old new told told' end ends = ends
 
 -- a recovery ran over a cartridge that is open, up to this line
 pub recovered_over : (until : Option ℕ) (line : ℕ) (cart cart' input input' output output' : Option (List ℕ)) (done : Result Recovery RecoveryFault) (end : Result (List ℕ) TaskFault) → line ≡ first_left_out until → IsRecoveryEnd done end
@@ -74,14 +79,18 @@ pub recovered : (files : FileBytes) (words : RecoveryWords) (cart left : Option 
     → RecoversOver words.until cart left old.input new.input old.output new.output end → Recovers files words old new end
 recovered files words cart left old new end is ran = inr (left, subst (λ (c : Option (List ℕ)). RecoversOver words.until c left old.input new.input old.output new.output end) is ran)
 
--- the engine of a task that reports, and that of one that doesn't
-pub ends_reported : (files : FileBytes) (chosen : Task) (words : Reported) (told told' : Option (List ℕ)) (old new : StreamBytes) (end : Result (Unit {0}) TaskFault) → reported_of chosen ≡ Some words
-    → ReportedEnds unknown_steps files words old new told told' end → EngineEnds files (reported_of chosen) chosen old new end
-ends_reported files chosen words told told' old new end is ends = subst (λ (o : Option Reported). EngineEnds files o chosen old new end) (sym is) (told, told', ends)
+-- the engine of a task that reports, a conversation, and the engine of any other task
+pub ends_reported : (steps : FileSteps) (files : FileBytes) (chosen : Task) (words : Reported) (told told' : Option (List ℕ)) (old new : StreamBytes) (end : Result (Unit {0}) TaskFault) → reported_of chosen ≡ Some words
+    → ReportedEnds unknown_steps files words old new told told' end → EngineEnds steps files (reported_of chosen) (talk_of chosen) chosen old new end
+ends_reported steps files chosen words told told' old new end is ends = subst (λ (o : Option Reported). EngineEnds steps files o (talk_of chosen) chosen old new end) (sym is) (told, told', ends)
 
-pub ends_other : (files : FileBytes) (chosen : Task) (old new : StreamBytes) (done : Result (Unit {0}) ToolFault) (end : Result (Unit {0}) TaskFault) → reported_of chosen ≡ None → end ≡ tool_end done
-    → DoesTask files chosen old new done → EngineEnds files (reported_of chosen) chosen old new end
-ends_other files chosen old new done end is e does = subst (λ (o : Option Reported). EngineEnds files o chosen old new end) (sym is) (done, e, does)
+pub ends_talk : (steps : FileSteps) (files : FileBytes) (chosen : Task) (words : TalkWords) (left : Option MovieContent) (old new : StreamBytes) (end : Result (Unit {0}) TaskFault) → reported_of chosen ≡ None → talk_of chosen ≡ Some words
+    → LeavesWords steps files words left old new end → EngineEnds steps files (reported_of chosen) (talk_of chosen) chosen old new end
+ends_talk steps files chosen words left old new end is talk leaves = rw (is, talk) (left, leaves)
+
+pub ends_other : (steps : FileSteps) (files : FileBytes) (chosen : Task) (old new : StreamBytes) (done : Result (Unit {0}) ToolFault) (end : Result (Unit {0}) TaskFault) → reported_of chosen ≡ None → talk_of chosen ≡ None → end ≡ tool_end done
+    → DoesTask files chosen old new done → EngineEnds steps files (reported_of chosen) (talk_of chosen) chosen old new end
+ends_other steps files chosen old new done end is talk e does = rw (is, talk) (done, e, does)
 
 -- a report ends with no fault of a file that was to be replaced, where what is reported doesn't
 not_reported : (done : Result (List ℕ) TaskFault) (fault : SaveFault) (told told' : Option (List ℕ)) → (done ≡ Err (NotSaved fault) → ⊥) → Reports done told told' (Err (NotSaved fault)) → ⊥
@@ -111,17 +120,19 @@ no_recovery_fault files words old new done fault (inr (left, (Ok said, inr refus
 no_recovery_fault files words old new done fault (inr (left, (Err e, ended, ran))) is = cc
 
 -- no engine ends with a fault of a file that was to be replaced
-pub no_save_fault : (files : FileBytes) (asked : Option Reported) (chosen : Task) (old new : StreamBytes) (fault : SaveFault) → EngineEnds files asked chosen old new (Err (NotSaved fault)) → ⊥
-no_save_fault files None chosen old new fault (Ok u, is, does) = cc
-no_save_fault files None chosen old new fault (Err other, is, does) = cc
-no_save_fault files (Some (reported.Search words)) chosen old new fault (told, told', inl none) = other_end none.is
+pub no_save_fault : (steps : FileSteps) (files : FileBytes) (asked : Option Reported) (talk : Option TalkWords) (chosen : Task) (old new : StreamBytes) (fault : SaveFault) → EngineEnds steps files asked talk chosen old new (Err (NotSaved fault)) → ⊥
+no_save_fault steps files None None chosen old new fault (Ok u, is, does) = cc
+no_save_fault steps files None None chosen old new fault (Err other, is, does) = cc
+no_save_fault steps files None (Some words) chosen old new fault (left, leaves) = no_talk_fault steps files words.start words.journal left old new fault leaves
+no_save_fault steps files (Some (reported.Search words)) talk chosen old new fault (told, told', inl none) = other_end none.is
   where
     other_end : ◌≡◌ {A = Result (Unit {0}) TaskFault} (Err (NotSaved fault)) (Err NoReport) → ⊥
     other_end e = cc
-no_save_fault files (Some (reported.Search words)) chosen old new fault (told, told', inr (held, held', made, ends)) =
+no_save_fault steps files (Some (reported.Search words)) talk chosen old new fault (told, told', inr (held, held', made, ends)) =
     no_verdict_fault ends.done fault ends.mid (log_bytes told' held') (no_search_fault files words old new (log_bytes told held) ends.mid ends.done fault ends.searches) ends.reports
-no_save_fault files (Some (reported.Recovery words)) chosen old new fault (told, told', ends) =
+no_save_fault steps files (Some (reported.Recovery words)) talk chosen old new fault (told, told', ends) =
     not_reported ends.done fault told told' (no_recovery_fault files words old new ends.done fault ends.recovers) ends.reports
+no_save_fault steps files (Some (reported.Verification words)) talk chosen old new fault (told, told', ends) = no_verify_fault files.read words.carts old new fault ends
 
 -- ---- the verdict
 

@@ -5,33 +5,17 @@ use Rattle.tas_engines.specs.declared.fault.ReadFault.TheVariants.{Failed}
 use Rattle.tas_engines.specs.declared.fault.ToolFault.{ToolFault}
 use Rattle.tas_engines.specs.declared.fault.ToolFault.TheVariants.{Read}
 use Rattle.tas_tool.specs.Talk.{IsCartTalkLeaving, IsMovieTalkLeaving}
-use Rattle.tas_tool.proofs.TalkRunLemmas.{cart_talk, movie_talk}
-use Rattle.tas_words.specs.declared.task.Start.{Start}
-use Rattle.tas_words.specs.declared.task.Start.TheVariants.{Blank, Cart, Movie}
+use Rattle.tas_words.specs.declared.task.TalkWords.{TalkWords}
 use Rattle.tas_words.specs.declared.task.Task.{Task}
-use Rattle.tas_words.specs.declared.task.Task.TheVariants.{Talk}
 use Rattle.tas_program.specs.declared.file_words.Permit.{Permit}
 use Rattle.tas_program.specs.declared.file_words.WordFault.{WordFault}
 use Rattle.tas_program.specs.declared.status.TaskFault.{TaskFault}
 use Rattle.tas_program.specs.OutputWords.{OutputEnds}
 use Rattle.tas_program.specs.declared.saving.SaveFault.{SaveFault}
 use Rattle.tas_program.specs.Saving.{AllStay, Files, FileSteps, SaveEnds, WhereKnown}
-use Rattle.tas_program.specs.Program.{DoesTask, FilesRun, IsSaveRun, LeavesOver, LeavesTalk, OverOne, OverTwo, SavesBy, SavesTalk, SavesTask, talk_of}
+use Rattle.tas_program.specs.Program.{FilesRun, IsSaveRun, LeavesOver, LeavesTalk, OverOne, OverTwo, SavesBy, SavesTalk, SavesTask, talk_of}
 use Rattle.tas_program.specs.Files.{FileBytes}
 use Rattle.tas_program.specs.Streams.{StreamBytes}
-
--- a conversation that leaves a movie is one, whatever it leaves
-pub talk_done : (files : FileBytes) (start : Start) (left : Option MovieContent) (old new : StreamBytes) (end : Result (Unit {0}) ToolFault) → LeavesTalk files start left old new end → DoesTask files (Talk start) old new end
-talk_done files Blank left old new end talk = talk.talk
-talk_done files (Cart cart) left old new end (inl (is, same, none)) = inl (is, same)
-talk_done files (Cart cart) left old new end (inr ([], ran)) = absurd ran
-talk_done files (Cart cart) left old new end (inr (rest ∷ [], ran)) = inr (rest ∷ [], cart_talk left _ rest _ _ _ _ end ran)
-talk_done files (Cart cart) left old new end (inr (rest ∷ more ∷ others, ran)) = absurd ran
-talk_done files (Movie start) left old new end (inl (is, same, none)) = inl (is, same)
-talk_done files (Movie start) left old new end (inr ([], ran)) = absurd ran
-talk_done files (Movie start) left old new end (inr (rest ∷ [], ran)) = absurd ran
-talk_done files (Movie start) left old new end (inr (rest ∷ rest' ∷ [], ran)) = inr (rest ∷ rest' ∷ [], movie_talk left _ rest _ rest' _ _ _ _ end ran)
-talk_done files (Movie start) left old new end (inr (rest ∷ rest' ∷ more ∷ others, ran)) = absurd ran
 
 -- files of a conversation that can't be opened
 pub talk_unopened : (files : List (Option (List ℕ))) (ran : FilesRun) (left : Option MovieContent) (old : StreamBytes) (end : Result (Unit {0}) ToolFault) (fault : ToolFault) → end ≡ Err fault → fault ≡ Read Failed → left ≡ None → LeavesOver files ran left old old end
@@ -67,12 +51,12 @@ saved_by : (steps : FileSteps) (files : FileBytes) (chosen : Task) (name : List 
 saved_by steps files chosen name old new words permit end before after is (named, seen, file, each, inputs, shown, first) saves =
     (named, seen, file, each, inputs, shown, rw (first, is) (before, after, saves))
 
-pub saved_talk : (steps : FileSteps) (files : FileBytes) (chosen : Task) (start : Start) (name : List ℕ) (old new : StreamBytes) (words : Result Permit WordFault) (permit : Permit) (end : Result (Unit {0}) TaskFault) (before after : Option Files) → words ≡ Ok permit
-    → OutputEnds files.shown chosen name words → talk_of chosen ≡ Some start → SavesTalk steps files start name old new before after end → IsSaveRun steps files chosen name old new end
-saved_talk steps files chosen start name old new words permit end before after is ends which saves =
-    saved_by steps files chosen name old new words permit end before after is ends (subst (λ (o : Option Start). SavesBy steps o files chosen name old new before after end) (sym which) saves)
+pub saved_talk : (steps : FileSteps) (files : FileBytes) (chosen : Task) (talk : TalkWords) (name : List ℕ) (old new : StreamBytes) (words : Result Permit WordFault) (permit : Permit) (end : Result (Unit {0}) TaskFault) (before after : Option Files) → words ≡ Ok permit
+    → OutputEnds files.shown chosen name words → talk_of chosen ≡ Some talk → SavesTalk steps steps files talk name old new before after end → IsSaveRun steps files chosen name old new end
+saved_talk steps files chosen talk name old new words permit end before after is ends which saves =
+    saved_by steps files chosen name old new words permit end before after is ends (subst (λ (o : Option TalkWords). SavesBy steps o files chosen name old new before after end) (sym which) saves)
 
 pub saved_text : (steps : FileSteps) (files : FileBytes) (chosen : Task) (name : List ℕ) (old new : StreamBytes) (words : Result Permit WordFault) (permit : Permit) (end : Result (Unit {0}) TaskFault) (before after : Option Files) → words ≡ Ok permit
-    → OutputEnds files.shown chosen name words → talk_of chosen ≡ None → SavesTask steps files chosen name old new before after end → IsSaveRun steps files chosen name old new end
+    → OutputEnds files.shown chosen name words → talk_of chosen ≡ None → SavesTask steps steps files chosen name old new before after end → IsSaveRun steps files chosen name old new end
 saved_text steps files chosen name old new words permit end before after is ends which saves =
-    saved_by steps files chosen name old new words permit end before after is ends (subst (λ (o : Option Start). SavesBy steps o files chosen name old new before after end) (sym which) saves)
+    saved_by steps files chosen name old new words permit end before after is ends (subst (λ (o : Option TalkWords). SavesBy steps o files chosen name old new before after end) (sym which) saves)

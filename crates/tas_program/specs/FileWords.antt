@@ -2,6 +2,7 @@
 use Rattle.std.specs.Prelude.{◌≡◌, ℕ, Bool, true, false, ◌&&◌, if◌then◌else◌, nat_eq, nat_lt, codes, List, [], ◌∷◌, ◌++◌, map, All, Option, Some, None, option_map, slice_get, Result, Ok, Err}
 use Rattle.tas_words.specs.declared.task.Pair.{Pair}
 use Rattle.tas_words.specs.declared.task.Pairs.{Pairs}
+use Rattle.tas_words.specs.declared.task.TalkWords.{TalkWords}
 use Rattle.tas_words.specs.declared.task.Task.{Task}
 use Rattle.tas_words.specs.declared.task.Task.TheVariants.{Talk, Desk}
 use Rattle.std.specs.Option.{option_flatten}
@@ -10,15 +11,15 @@ use Rattle.tas_words.specs.declared.task.Start.{Start}
 use Rattle.tas_words.specs.declared.task.Start.TheVariants.{Blank, Cart, Movie}
 use Rattle.tas_program.specs.declared.folder.OrdinaryFile.{OrdinaryFile}
 use Rattle.tas_program.specs.declared.file_words.FileWord.{FileWord}
-use Rattle.tas_program.specs.declared.file_words.FileWord.TheVariants.{Cart as CartWord, Movie as MovieWord, In, Out, Input, Output}
+use Rattle.tas_program.specs.declared.file_words.FileWord.TheVariants.{Cart as CartWord, Movie as MovieWord, In, Out, Journal as JournalWord, Input, Output}
 use Rattle.tas_program.specs.declared.file_words.SeenWord.{SeenWord}
 use Rattle.tas_program.specs.declared.file_words.Permit.{Permit}
 use Rattle.tas_program.specs.declared.file_words.WordFault.{WordFault}
-use Rattle.tas_program.specs.declared.file_words.WordFault.TheVariants.{SameFile, NotEmpty}
+use Rattle.tas_program.specs.declared.file_words.WordFault.TheVariants.{SameFile, NotEmpty, Exists}
 
 -- all words in their order: those of the command line, and then the streams
 abbrev pub words : List FileWord
-words = CartWord ∷ MovieWord ∷ In 0 ∷ Out 0 ∷ In 1 ∷ Out 1 ∷ In 2 ∷ Out 2 ∷ In 3 ∷ Out 3 ∷ In 4 ∷ Out 4 ∷ In 5 ∷ Out 5 ∷ In 6 ∷ Out 6 ∷ In 7 ∷ Out 7 ∷ Input ∷ Output ∷ []
+words = CartWord ∷ MovieWord ∷ In 0 ∷ Out 0 ∷ In 1 ∷ Out 1 ∷ In 2 ∷ Out 2 ∷ In 3 ∷ Out 3 ∷ In 4 ∷ Out 4 ∷ In 5 ∷ Out 5 ∷ In 6 ∷ Out 6 ∷ In 7 ∷ Out 7 ∷ JournalWord ∷ Input ∷ Output ∷ []
 
 -- the pair of this number, if it is there
 abbrev pub pair_at : Pairs → ℕ → Option Pair
@@ -36,12 +37,13 @@ movie_name Blank = None
 movie_name (Cart cart) = None
 movie_name (Movie files) = Some files.movie.now
 
-abbrev pub talk_name : Start → FileWord → Option (List ℕ)
-talk_name start CartWord = cart_name start
-talk_name start MovieWord = movie_name start
-talk_name start Input = Some (codes "/dev/stdin")
-talk_name start Output = Some (codes "/dev/stdout")
-talk_name start word = None
+abbrev pub talk_name : TalkWords → FileWord → Option (List ℕ)
+talk_name talk CartWord = cart_name talk.start
+talk_name talk MovieWord = movie_name talk.start
+talk_name talk JournalWord = option_map (λ name. name.now) talk.journal
+talk_name talk Input = Some (codes "/dev/stdin")
+talk_name talk Output = Some (codes "/dev/stdout")
+talk_name talk word = None
 
 -- the same of a desk, which doesn't read standard input
 abbrev pub desk_name : Bor (List ℕ) → Bor (List ℕ) → Pairs → FileWord → Option (List ℕ)
@@ -54,7 +56,7 @@ desk_name cart movie pairs word = None
 
 -- the same of each task; other tasks read their inputs whole before they write, so their files aren't looked at
 abbrev pub name_of : Task → FileWord → Option (List ℕ)
-name_of (Talk start) word = talk_name start word
+name_of (Talk talk) word = talk_name talk word
 name_of (Desk cart movie pairs) word = desk_name cart movie pairs word
 name_of chosen word = None
 
@@ -106,13 +108,18 @@ fault_by word (Some other) full = Some (SameFile word other)
 fault_by word None true = Some (NotEmpty word)
 fault_by word None false = None
 
-abbrev pub word_fault : List SeenWord → SeenWord → Option WordFault
-word_fault others word = fault_by word.word (first_same others word) (has_bytes word)
-
 -- this fault, or else the other one
 abbrev pub fault_or : Option WordFault → Option WordFault → Option WordFault
 fault_or (Some fault) later = Some fault
 fault_or None later = later
+
+-- a journal goes to a new file, so its word is at fault where an ordinary file is there
+abbrev pub there_fault : FileWord → Option OrdinaryFile → Option WordFault
+there_fault JournalWord (Some file) = Some (Exists JournalWord)
+there_fault word file = None
+
+abbrev pub word_fault : List SeenWord → SeenWord → Option WordFault
+word_fault others word = fault_or (fault_by word.word (first_same others word) (has_bytes word)) (there_fault word.word word.file)
 
 -- the fault of the first word at fault, after some that aren't
 abbrev pub fault_from : (others seen : List SeenWord) → Option WordFault

@@ -3,7 +3,9 @@ pub mod FileWords
 pub mod Files
 pub mod Searching
 pub mod Recovering
+pub mod Verifying
 pub mod Reporting
+pub mod Noting
 pub mod Program
 pub mod Waiting
 pub mod Saving

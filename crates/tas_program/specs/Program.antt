@@ -17,7 +17,7 @@ use Rattle.tas_engines.specs.Shooting.{IsShotAnswer}
 use Rattle.tas_engines.specs.Output.{StopsWriting}
 use Rattle.tas_engines.specs.Tracing.{IsTraceAnswer}
 use Rattle.tas_tool.specs.Scripts.{IsScriptRun}
-use Rattle.tas_tool.specs.Talk.{talk_state_from, IsTalk, IsCartTalk, IsMovieTalk, IsTalkLeaving, IsCartTalkLeaving, IsMovieTalkLeaving}
+use Rattle.tas_tool.specs.Talk.{talk_state_from, IsTalkLeaving, IsCartTalkLeaving, IsMovieTalkLeaving}
 use Rattle.tas_movie.specs.Text.{text2}
 use Rattle.tas_tool.specs.Pixmaps.{IsExportAnswer}
 use Rattle.tas_tool.specs.MovieScripts.{IsMovieScriptRun}
@@ -41,13 +41,15 @@ use Rattle.tas_words.specs.declared.invocation.Invocation.TheVariants.{Do, Save,
 use Rattle.tas_program.specs.declared.status.Status.{Status}
 use Rattle.tas_program.specs.declared.status.Status.TheVariants.{Done, Fault, Misuse}
 use Rattle.tas_words.specs.declared.task.Task.{Task}
-use Rattle.tas_words.specs.declared.task.Task.TheVariants.{Trace, Check, Migrate, New, Recover, Search, Shot, Film, Export, Ram, Digest, Compare, Lag, Edit, Cut, Diff, Script, Talk, Desk}
+use Rattle.tas_words.specs.declared.task.Task.TheVariants.{Trace, Check, Migrate, New, Recover, Search, Verify, Shot, Film, Export, Ram, Digest, Compare, Lag, Edit, Cut, Diff, Script, Talk, Desk}
+use Rattle.std.specs.Borrow.{Bor}
+use Rattle.tas_words.specs.declared.task.TalkWords.{TalkWords}
 use Rattle.tas_words.specs.declared.task.Start.{Start}
 use Rattle.tas_words.specs.declared.task.Start.TheVariants.{Blank, Cart, Movie}
 use Rattle.clap.specs.Walk.{Text}
 use Rattle.tas_words.specs.Invocations.{AreGiven, IsInvocation}
 use Rattle.tas_program.specs.declared.status.TaskFault.{TaskFault}
-use Rattle.tas_program.specs.declared.status.TaskFault.TheVariants.{Word, Tool, Search as NotSearched, Recover as NotRecovered, Report, NoReport, Save as NotSaved}
+use Rattle.tas_program.specs.declared.status.TaskFault.TheVariants.{Word, Tool, Search as NotSearched, Recover as NotRecovered, Verify as NotVerified, NoCarts, NotAll, Report, NoReport, NoJournal, Journal as NotNoted, Save as NotSaved}
 use Rattle.tas_program.specs.declared.file_words.WordFault.{WordFault}
 use Rattle.tas_program.specs.declared.file_words.SeenWord.{SeenWord}
 use Rattle.tas_program.specs.declared.saving.SaveFault.{SaveFault}
@@ -55,6 +57,7 @@ use Rattle.tas_program.specs.declared.folder.OrdinaryFile.{OrdinaryFile}
 use Rattle.tas_program.specs.FileWords.{AreSeen, IsSeen, fault_or, first_fault}
 use Rattle.tas_program.specs.OutputWords.{AreInputsSeen, output_fault}
 use Rattle.tas_program.specs.Saving.{Files, FileSteps, SaveEnds, unknown_steps}
+use Rattle.tas_program.specs.Noting.{NotesTalk}
 use Rattle.tas_program.specs.Files.{FileBytes}
 use Rattle.tas_program.specs.Reporting.{ReportedEnds, reported_of}
 use Rattle.tas_program.specs.declared.searching.Reported.{Reported}
@@ -77,8 +80,13 @@ end_status (Err (Word fault)) = Misuse
 end_status (Err (Tool fault)) = Fault
 end_status (Err (NotSearched e)) = Fault
 end_status (Err (NotRecovered fault)) = Fault
+end_status (Err (NotVerified fault)) = Fault
+end_status (Err NoCarts) = Fault
+end_status (Err NotAll) = Fault
 end_status (Err (Report fault)) = Fault
 end_status (Err NoReport) = Fault
+end_status (Err NoJournal) = Fault
+end_status (Err (NotNoted fault)) = Fault
 end_status (Err (NotSaved fault)) = Fault
 
 -- what runs over files and the streams: what the files have and what is left of them, and the bytes of the input and of the output, before and after
@@ -122,7 +130,7 @@ ends_of files pairs = map (ends_by files) (pairs_in pairs)
 abbrev pub IsDeskTask : List DoorEnds → TwoFilesRun
 IsDeskTask ends cart cart' movie movie' input input' output output' end = (input' ≡ input) × IsDeskRun GlobalType end_facts ends ends cart cart' movie movie' output output' end
 
--- a task that reports nothing ends as the definition of its command says, over its files and the streams
+-- a task that reports nothing, and is no conversation, ends as the definition of its command says, over its files and the streams
 abbrev pub DoesTask : FileBytes → Task → StreamBytes → StreamBytes → Result (Unit {0}) ToolFault → Type 0
 DoesTask files (Trace n) old new end = EndsOver [] (IsRun (OfOne (λ image. IsTraceAnswer image n))) old new end
 DoesTask files (Check cart) old new end = EndsOver (files.read cart.now ∷ []) (IsRun (OfTwo IsCheckAnswer)) old new end
@@ -130,6 +138,7 @@ DoesTask files (Migrate cart) old new end = EndsOver (files.read cart.now ∷ []
 DoesTask files (New cart frames) old new end = EndsOver (files.read cart.now ∷ []) (IsRunOfFiles (OfOne (IsNewAnswer (min frames most_inputs)))) old new end
 DoesTask files (Recover words) old new end = ⊥
 DoesTask files (Search words) old new end = ⊥
+DoesTask files (Verify words) old new end = ⊥
 DoesTask files (Shot cart k) old new end = EndsOver (files.read cart.now ∷ []) (IsRun (OfTwo (IsShotAnswer k))) old new end
 DoesTask files (Film cart from to) old new end = EndsOver (files.read cart.now ∷ []) (OverOne (IsFilmRun from to)) old new end
 DoesTask files (Export cart from to workers) old new end = EndsOver (files.read cart.now ∷ []) (OverOne (IsMovieRun (IsExportAnswer from to))) old new end
@@ -144,9 +153,7 @@ DoesTask files (Cut cart from to) old new end = EndsOver (files.read cart.now �
 DoesTask files (Diff cart before) old new end = EndsOver (files.read cart.now ∷ files.read before.now ∷ []) (IsRun (OfThree IsDiffAnswer)) old new end
 DoesTask files (Script None) old new end = IsScriptRun old.input new.input old.output new.output end
 DoesTask files (Script (Some start)) old new end = EndsOver (files.read start.cart.now ∷ files.read start.movie.now ∷ []) (OverTwo IsMovieScriptRun) old new end
-DoesTask files (Talk Blank) old new end = IsTalk (talk_state_from None) old.input new.input old.output new.output end
-DoesTask files (Talk (Cart cart)) old new end = EndsOver (files.read cart.now ∷ []) (OverOne IsCartTalk) old new end
-DoesTask files (Talk (Movie start)) old new end = EndsOver (files.read start.cart.now ∷ files.read start.movie.now ∷ []) (OverTwo IsMovieTalk) old new end
+DoesTask files (Talk words) old new end = ⊥
 DoesTask files (Desk cart movie pairs) old new end = EndsOver (files.read cart.now ∷ files.read movie.now ∷ []) (OverTwo (IsDeskTask (ends_of files pairs))) old new end
 
 -- the end of a task whose engine was run
@@ -154,20 +161,50 @@ abbrev pub tool_end : Result (Unit {0}) ToolFault → Result (Unit {0}) TaskFaul
 tool_end (Ok u) = Ok u
 tool_end (Err fault) = Err (Tool fault)
 
--- the engine of a task was run: that of a search or a recovery, which reports to some writer, of which nothing is said here; or that of another task
-abbrev pub EngineEnds : FileBytes → Option Reported → Task → StreamBytes → StreamBytes → Result (Unit {0}) TaskFault → Type 0
-EngineEnds files (Some words) chosen old new end = (told told' : Option (List ℕ)) × ReportedEnds unknown_steps files words old new told told' end
-EngineEnds files None chosen old new end = (done : Result (Unit {0}) ToolFault) × (end ≡ tool_end done) × DoesTask files chosen old new done
+-- ---- conversations
+
+-- the words of a task's conversation, where it is one
+abbrev pub talk_of : Task → Option TalkWords
+talk_of (Talk words) = Some words
+talk_of chosen = None
+
+-- files are opened first: one can't be, the streams are as before, and no movie is left; or a conversation over them ends, and leaves this
+abbrev pub LeavesOver : List (Option (List ℕ)) → FilesRun → Option MovieContent → StreamBytes → StreamBytes → Result (Unit {0}) ToolFault → Type 0
+LeavesOver files ran left old new end =
+    ((end ≡ Err (Read Failed)) × (new ≡ old) × (left ≡ None)) ⊎ ((rest : List (Option (List ℕ))) × ran files rest old.input new.input old.output new.output end)
+
+-- a conversation ends as its definition says, and leaves this movie, or none where it didn't begin
+abbrev pub LeavesTalk : FileBytes → Start → Option MovieContent → StreamBytes → StreamBytes → Result (Unit {0}) ToolFault → Type 0
+LeavesTalk files Blank left old new end = IsTalkLeaving left (talk_state_from None) old.input new.input old.output new.output end
+LeavesTalk files (Cart cart) left old new end = LeavesOver (files.read cart.now ∷ []) (OverOne (IsCartTalkLeaving left)) left old new end
+LeavesTalk files (Movie start) left old new end = LeavesOver (files.read start.cart.now ∷ files.read start.movie.now ∷ []) (OverTwo (IsMovieTalkLeaving left)) left old new end
+
+-- the same of one with a journal where the words name one, by steps of the folder
+abbrev pub LeavesBy : FileSteps → FileBytes → Start → Option (Bor (List ℕ)) → Option MovieContent → StreamBytes → StreamBytes → Result (Unit {0}) TaskFault → Type 0
+LeavesBy steps files start None left old new end = (done : Result (Unit {0}) ToolFault) × (end ≡ tool_end done) × LeavesTalk files start left old new done
+LeavesBy steps files start (Some journal) left old new end = NotesTalk steps files start journal.now left old new end
+
+abbrev pub LeavesWords : FileSteps → FileBytes → TalkWords → Option MovieContent → StreamBytes → StreamBytes → Result (Unit {0}) TaskFault → Type 0
+LeavesWords steps files words left old new end = LeavesBy steps files words.start words.journal left old new end
+
+-- ---- any task
+
+-- the engine of a task was run: that of a search, a recovery or a verification, which reports to some writer, of which nothing is said here; a conversation was held, its
+-- journal's file made by steps of the folder; or that of another task
+abbrev pub EngineEnds : FileSteps → FileBytes → Option Reported → Option TalkWords → Task → StreamBytes → StreamBytes → Result (Unit {0}) TaskFault → Type 0
+EngineEnds steps files (Some words) talk chosen old new end = (told told' : Option (List ℕ)) × ReportedEnds unknown_steps files words old new told told' end
+EngineEnds steps files None (Some words) chosen old new end = (left : Option MovieContent) × LeavesWords steps files words left old new end
+EngineEnds steps files None None chosen old new end = (done : Result (Unit {0}) ToolFault) × (end ≡ tool_end done) × DoesTask files chosen old new done
 
 -- what is done after the words were looked at: where one is at fault, the task ends with that, and no stream is read or written; else its
 -- engine is run
-abbrev pub RunsAfter : FileBytes → Task → Option WordFault → StreamBytes → StreamBytes → Result (Unit {0}) TaskFault → Type 0
-RunsAfter files chosen (Some fault) old new end = (end ≡ Err (Word fault)) × (new ≡ old)
-RunsAfter files chosen None old new end = EngineEnds files (reported_of chosen) chosen old new end
+abbrev pub RunsAfter : FileSteps → FileBytes → Task → Option WordFault → StreamBytes → StreamBytes → Result (Unit {0}) TaskFault → Type 0
+RunsAfter steps files chosen (Some fault) old new end = (end ≡ Err (Word fault)) × (new ≡ old)
+RunsAfter steps files chosen None old new end = EngineEnds steps files (reported_of chosen) (talk_of chosen) chosen old new end
 
 -- a task is run: its words are seen as the folder shows their files, and the first one at fault decides
-abbrev pub IsTaskRun : FileBytes → Task → StreamBytes → StreamBytes → Result (Unit {0}) TaskFault → Type 0
-IsTaskRun files chosen old new end = (seen : List SeenWord) × AreSeen files.shown chosen seen × RunsAfter files chosen (first_fault seen) old new end
+abbrev pub IsTaskRun : FileSteps → FileBytes → Task → StreamBytes → StreamBytes → Result (Unit {0}) TaskFault → Type 0
+IsTaskRun steps files chosen old new end = (seen : List SeenWord) × AreSeen files.shown chosen seen × RunsAfter steps files chosen (first_fault seen) old new end
 
 -- the fault of an engine whose output is held in memory: a write fails only where memory is refused
 abbrev pub held_fault : ToolFault → ToolFault
@@ -202,52 +239,36 @@ SavedAfter steps (Ok _) name text files files' end = (saved : Result (Unit {0}) 
 SavedAfter steps (Err fault) name text files files' end = (end ≡ Err (held fault)) × (files' ≡ files)
 
 -- a task is done, and its output replaces a file: nothing is written to standard output
-pub record SavesTask (steps : FileSteps) (read : FileBytes) (chosen : Task) (name : List ℕ) (old new : StreamBytes) (files files' : Option Files) (end : Result (Unit {0}) TaskFault) : Type 0 where
+pub record SavesTask (steps made : FileSteps) (read : FileBytes) (chosen : Task) (name : List ℕ) (old new : StreamBytes) (files files' : Option Files) (end : Result (Unit {0}) TaskFault) : Type 0 where
   pub done : Result (Unit {0}) TaskFault
   pub text : List ℕ
-  pub does : EngineEnds read (reported_of chosen) chosen (record { input = old.input; output = Some [] }) (record { input = new.input; output = Some text }) done
+  pub does : EngineEnds made read (reported_of chosen) (talk_of chosen) chosen (record { input = old.input; output = Some [] }) (record { input = new.input; output = Some text }) done
   pub silent : new.output ≡ old.output
   pub saved : SavedAfter steps done name text files files' end
 
 -- ---- a conversation whose movie replaces a file
 
--- what a task's conversation starts from, where it is one
-abbrev pub talk_of : Task → Option Start
-talk_of (Talk start) = Some start
-talk_of chosen = None
-
--- files are opened first: one can't be, the streams are as before, and no movie is left; or a conversation over them ends, and leaves this
-abbrev pub LeavesOver : List (Option (List ℕ)) → FilesRun → Option MovieContent → StreamBytes → StreamBytes → Result (Unit {0}) ToolFault → Type 0
-LeavesOver files ran left old new end =
-    ((end ≡ Err (Read Failed)) × (new ≡ old) × (left ≡ None)) ⊎ ((rest : List (Option (List ℕ))) × ran files rest old.input new.input old.output new.output end)
-
--- a conversation ends as its definition says, and leaves this movie, or none where it didn't begin
-abbrev pub LeavesTalk : FileBytes → Start → Option MovieContent → StreamBytes → StreamBytes → Result (Unit {0}) ToolFault → Type 0
-LeavesTalk files Blank left old new end = IsTalkLeaving left (talk_state_from None) old.input new.input old.output new.output end
-LeavesTalk files (Cart cart) left old new end = LeavesOver (files.read cart.now ∷ []) (OverOne (IsCartTalkLeaving left)) left old new end
-LeavesTalk files (Movie start) left old new end = LeavesOver (files.read start.cart.now ∷ files.read start.movie.now ∷ []) (OverTwo (IsMovieTalkLeaving left)) left old new end
-
 -- the end where a conversation ended so and its movie was to replace a file: the file's fault, where it has one
-abbrev pub left_end : Result (Unit {0}) ToolFault → Result (Unit {0}) SaveFault → Result (Unit {0}) TaskFault
-left_end done (Ok u) = tool_end done
+abbrev pub left_end : Result (Unit {0}) TaskFault → Result (Unit {0}) SaveFault → Result (Unit {0}) TaskFault
+left_end done (Ok u) = done
 left_end done (Err fault) = Err (NotSaved fault)
 
 -- what comes of the file: the text of the movie that is left replaces it, whatever ended the conversation; where none is left no file is touched
-abbrev pub LeftAfter : FileSteps → Result (Unit {0}) ToolFault → Option MovieContent → (name : List ℕ) → (files files' : Option Files) → Result (Unit {0}) TaskFault → Type 0
+abbrev pub LeftAfter : FileSteps → Result (Unit {0}) TaskFault → Option MovieContent → (name : List ℕ) → (files files' : Option Files) → Result (Unit {0}) TaskFault → Type 0
 LeftAfter steps done (Some movie) name files files' end = (saved : Result (Unit {0}) SaveFault) × (end ≡ left_end done saved) × SaveEnds steps name (text2 movie) files files' saved
-LeftAfter steps done None name files files' end = (end ≡ tool_end done) × (files' ≡ files)
+LeftAfter steps done None name files files' end = (end ≡ done) × (files' ≡ files)
 
 -- a conversation is held as without a file, its answers on standard output, and the movie that it leaves replaces the file
-pub record SavesTalk (steps : FileSteps) (read : FileBytes) (start : Start) (name : List ℕ) (old new : StreamBytes) (files files' : Option Files) (end : Result (Unit {0}) TaskFault) : Type 0 where
-  pub done : Result (Unit {0}) ToolFault
+pub record SavesTalk (steps made : FileSteps) (read : FileBytes) (words : TalkWords) (name : List ℕ) (old new : StreamBytes) (files files' : Option Files) (end : Result (Unit {0}) TaskFault) : Type 0 where
+  pub done : Result (Unit {0}) TaskFault
   pub left : Option MovieContent
-  pub does : LeavesTalk read start left old new done
+  pub does : LeavesWords made read words left old new done
   pub saved : LeftAfter steps done left name files files' end
 
 -- what a task does that replaces a file
-abbrev pub SavesBy : FileSteps → Option Start → FileBytes → Task → List ℕ → (old new : StreamBytes) → (files files' : Option Files) → Result (Unit {0}) TaskFault → Type 0
-SavesBy steps None read chosen name old new files files' end = SavesTask steps read chosen name old new files files' end
-SavesBy steps (Some start) read chosen name old new files files' end = SavesTalk steps read start name old new files files' end
+abbrev pub SavesBy : FileSteps → Option TalkWords → FileBytes → Task → List ℕ → (old new : StreamBytes) → (files files' : Option Files) → Result (Unit {0}) TaskFault → Type 0
+SavesBy steps None read chosen name old new files files' end = SavesTask steps steps read chosen name old new files files' end
+SavesBy steps (Some words) read chosen name old new files files' end = SavesTalk steps steps read words name old new files files' end
 
 -- what is done after the words were looked at: where one is at fault, the task ends with that, and nothing is read or written; else it is
 -- done and saved, by steps of the folder, in a directory of some files. These may be files that aren't known, as those of the system's folder
@@ -262,22 +283,27 @@ abbrev pub IsSaveRun : FileSteps → FileBytes → Task → List ℕ → StreamB
 IsSaveRun steps read chosen name old new end =
     (named : List SeenWord) × (seen : List SeenWord) × (file : Option OrdinaryFile)
     × AreSeen read.shown chosen named × AreInputsSeen read.shown chosen seen × IsSeen read.shown (Some name) file
-    × SavesAfter steps read chosen name (fault_or (first_fault named) (output_fault chosen seen file)) old new end
+    × SavesAfter steps read chosen name (fault_or (first_fault named) (output_fault chosen seen name file)) old new end
 
 -- a fault of an engine
 abbrev pub IsEngineFault : TaskFault → Type 0
 IsEngineFault (Tool fault) = Unit {0}
 IsEngineFault (NotSearched e) = Unit {0}
 IsEngineFault (NotRecovered fault) = Unit {0}
+IsEngineFault (NotVerified fault) = Unit {0}
+IsEngineFault NoCarts = Unit {0}
+IsEngineFault NotAll = Unit {0}
 IsEngineFault (Report fault) = Unit {0}
 IsEngineFault NoReport = Unit {0}
+IsEngineFault NoJournal = Unit {0}
+IsEngineFault (NotNoted fault) = Unit {0}
 IsEngineFault _ = ⊥
 
 -- the program's end after a task: done where the task is, else a fault of its engine or of a word
-abbrev pub TaskEnds : FileBytes → Task → StreamBytes → StreamBytes → Status → Type 0
-TaskEnds files chosen old new Done = IsTaskRun files chosen old new (Ok tt)
-TaskEnds files chosen old new Fault = (fault : TaskFault) × IsEngineFault fault × IsTaskRun files chosen old new (Err fault)
-TaskEnds files chosen old new Misuse = (fault : WordFault) × IsTaskRun files chosen old new (Err (Word fault))
+abbrev pub TaskEnds : FileSteps → FileBytes → Task → StreamBytes → StreamBytes → Status → Type 0
+TaskEnds steps files chosen old new Done = IsTaskRun steps files chosen old new (Ok tt)
+TaskEnds steps files chosen old new Fault = (fault : TaskFault) × IsEngineFault fault × IsTaskRun steps files chosen old new (Err fault)
+TaskEnds steps files chosen old new Misuse = (fault : WordFault) × IsTaskRun steps files chosen old new (Err (Word fault))
 
 -- the program's end after a text that was asked for: done where it was written whole, else a fault
 abbrev pub TextEnds : List ℕ → Option (List ℕ) → Option (List ℕ) → Status → Type 0
@@ -287,7 +313,7 @@ TextEnds text old new Misuse = ⊥
 
 -- the program's end after an invocation: that of its task, whose output may replace a file; or it shows a text, and reads nothing; else nothing is read and nothing written
 abbrev pub CarriesOut : {A : Type 0} → FileSteps → FileBytes → Invocation A → StreamBytes → StreamBytes → Status → Type 0
-CarriesOut steps files (Do chosen) old new status = TaskEnds files chosen old new status
+CarriesOut steps files (Do chosen) old new status = TaskEnds steps files chosen old new status
 CarriesOut steps files (Save chosen file) old new status = (end : Result (Unit {0}) TaskFault) × (status ≡ end_status end) × IsSaveRun steps files chosen file.now old new end
 CarriesOut steps files (Show text) old new status = (new.input ≡ old.input) × TextEnds (string_bytes text) old.output new.output status
 CarriesOut steps files (Refuse text) old new status = (status ≡ Misuse) × (new ≡ old)

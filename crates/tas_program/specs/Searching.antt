@@ -31,6 +31,7 @@ pub record IsAskedFor (words : SearchWords) (asked : Asked) : Type 0 where
   pub from_is : asked.from ≡ words.from
   pub frames_is : asked.frames ≡ words.frames
   pub hold_is : asked.hold ≡ words.hold
+  pub part_is : asked.part ≡ record { number = words.part.number; of = words.part.of }
   pub states_is : asked.states ≡ words.states
   pub workers_is : asked.workers ≡ words.workers
   pub choices_is : asked.has_choices ≡ is_some words.choices

@@ -3,7 +3,8 @@
 //! What the folder shows decides before any file is opened, in the order of the words: a fault names one word. Two
 //! words of a desk that are only read count, too: each is most likely a slip, and a copy of the file serves whoever
 //! means it. Pipes and devices lose nothing and may stand for several words. Standard streams are looked at by their
-//! names in /dev, so that a folder in memory shows them, too.
+//! names in /dev, so that a folder in memory shows them, too. A conversation's JOURNAL must be new: it would go over the bytes
+//! of a file that is there, and what somebody else's edits left in it would be taken for its own.
 //!
 //! No contract can say that a file wasn't opened, since opening leaves a folder as it was. So `open_to_write` takes a
 //! `Permit`, which only `check_words` makes. It is bound to no task: that `run_task` asks for its own task's is seen by
@@ -11,12 +12,12 @@
 
 ghost use Rattle.std.specs.Prelude.{◌≡◌, option_map};
 ghost use Rattle.tas_program.specs.FileWords.{AreSeen, IsSeen, WordsEnd, are_same, cart_name, desk_name, first_fault, first_same};
-ghost use Rattle.tas_program.specs.FileWords.{has_bytes, is_pair_output, movie_name, name_of, pair_at, talk_name, word_fault};
+ghost use Rattle.tas_program.specs.FileWords.{has_bytes, is_pair_output, movie_name, name_of, pair_at, talk_name, there_fault, word_fault};
 
 use crate::{Folder, OrdinaryFile};
 use std::fmt;
 use std::fmt::{Display, Formatter, Write};
-use tas_words::{Pair, Pairs, Start, Task};
+use tas_words::{Pair, Pairs, Start, TalkWords, Task};
 use thiserror::Error;
 
 /// A word that names a file, or a standard stream. Its text is the word's name in the help.
@@ -38,6 +39,8 @@ pub enum FileWord {
     In(usize),
     /// The answers to the pair of this number.
     Out(usize),
+    /// The new file of the journal.
+    Journal,
     /// Standard input.
     Input,
     /// Standard output.
@@ -55,6 +58,7 @@ impl Display for FileWord {
             FileWord::File => f.write_str("FILE"),
             FileWord::In(pair) => write!(f, "IN{pair}"),
             FileWord::Out(pair) => write!(f, "OUT{pair}"),
+            FileWord::Journal => f.write_str("JOURNAL"),
             FileWord::Input => f.write_str("standard input"),
             FileWord::Output => f.write_str("standard output"),
         }
@@ -79,6 +83,12 @@ pub enum WordFault {
         /// The word of that file.
         word: FileWord,
     },
+    /// An ordinary file is there where a new one is to be made.
+    #[error("fault: {word}: file exists")]
+    Exists {
+        /// The word of that file.
+        word: FileWord,
+    },
 }
 
 /// The permit to open files for writing. [`check_words`] makes one where no word of a task is at fault, and nothing else does;
@@ -99,7 +109,7 @@ pub(crate) struct SeenWord {
 }
 
 /// How many words there are.
-const WORDS: usize = 20;
+const WORDS: usize = 21;
 
 /// All words, as they stand on the command line, and then the streams.
 static ALL: [FileWord; WORDS] = [
@@ -121,6 +131,7 @@ static ALL: [FileWord; WORDS] = [
     FileWord::Out(6),
     FileWord::In(7),
     FileWord::Out(7),
+    FileWord::Journal,
     FileWord::Input,
     FileWord::Output,
 ];
@@ -165,12 +176,13 @@ fn movie_of(start: Start<'_>) -> Option<&str>
 }
 
 /// What a word of a conversation stands for.
-fn in_talk(start: Start<'_>, word: FileWord) -> Option<&str>
-    ensures { option_map (λ name. name.now) result ≡ talk_name start.entry word }
+fn in_talk(words: TalkWords<'_>, word: FileWord) -> Option<&str>
+    ensures { option_map (λ name. name.now) result ≡ talk_name words.entry word }
 {
     match word {
-        FileWord::Cart => cart_of(start),
-        FileWord::Movie => movie_of(start),
+        FileWord::Cart => cart_of(words.start),
+        FileWord::Movie => movie_of(words.start),
+        FileWord::Journal => words.journal,
         FileWord::Input => Some("/dev/stdin"),
         FileWord::Output => Some("/dev/stdout"),
         _ => None,
@@ -203,7 +215,7 @@ fn name_in<'a>(task: Task<'a>, word: FileWord) -> Option<&'a str>
     ensures { option_map (λ name. name.now) result ≡ name_of task.entry word }
 {
     match task {
-        Task::Talk(start) => in_talk(start, word),
+        Task::Talk(words) => in_talk(words, word),
         Task::Desk { cart, movie, pairs } => in_desk(cart, movie, pairs, word),
         _ => None,
     }
@@ -281,6 +293,21 @@ fn has_content(word: SeenWord) -> bool
     }
 }
 
+/// What is wrong with a word for a new file.
+fn there_fault(word: SeenWord) -> Option<WordFault>
+    ensures { result ≡ there_fault word.word word.file }
+{
+    match word.word {
+        FileWord::Journal => match word.file {
+            Some(_) => Some(WordFault::Exists {
+                word: FileWord::Journal,
+            }),
+            None => None,
+        },
+        _ => None,
+    }
+}
+
 /// What is wrong with a word after others.
 fn fault_after(others: &[SeenWord], word: SeenWord) -> Option<WordFault>
     ensures { result ≡ word_fault others.now word }
@@ -294,7 +321,7 @@ fn fault_after(others: &[SeenWord], word: SeenWord) -> Option<WordFault>
             if has_content(word) {
                 Some(WordFault::NotEmpty { word: word.word })
             } else {
-                None
+                there_fault(word)
             }
         }
     }
@@ -313,7 +340,7 @@ fn fault_among(seen: &[SeenWord; WORDS]) -> Option<WordFault>
 }
 
 /// Looks at the files that a task's words name, before any is opened. Reports the first word that names the ordinary file of an earlier
-/// word, or that is an OUT and names an ordinary file with bytes. Standard input and output count as words after those of the command
+/// word, or that is an OUT and names an ordinary file with bytes, or is a JOURNAL and names one that is there. Standard input and output count as words after those of the command
 /// line. Only the words of [`Task::Talk`] and [`Task::Desk`] are looked at: other tasks read their inputs whole before they write, and the
 /// report of a search goes to a new file.
 pub fn check_words<F: Folder>(folder: &F, task: Task<'_>) -> Result<Permit, WordFault>

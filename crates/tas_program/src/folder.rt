@@ -5,6 +5,7 @@ ghost use Rattle.tas_program.specs.FileWords.{IsShown};
 ghost use Rattle.tas_program.specs.Saving.{FileSteps, unknown_steps};
 
 use crate::Permit;
+use std::alloc::Global;
 use std::fs::{File, OpenOptions};
 use std::io::{ErrorKind, IsTerminal, Read, Write};
 use std::os::unix::fs::MetadataExt;
@@ -64,7 +65,8 @@ pub trait Folder {
 
     /// Brings all that was written to the file of this name to the disk.
     fn sync(&self, _name: &str, _sink: &mut Self::Sink) -> io::Result<()>
-        ensures { OnOk result (steps.kept _name.now (Self.Sink.contents _sink.old)) }
+        ensures step { OnOk result (steps.kept _name.now (Self.Sink.contents _sink.old)) }
+        ensures same { Self.Sink.contents _sink.new ≡ Self.Sink.contents _sink.old }
     {
         Err(io::Error::from(ErrorKind::Unsupported))
     }
@@ -80,6 +82,16 @@ pub trait Folder {
 
     /// Removes a file. One that can't be removed stays.
     fn remove(&self, _permit: Permit, _name: &str) {}
+
+    /// The names of what is in a directory. An error where it can't be listed, or memory is refused.
+    fn list(&self, _alloc: Global, _dir: &str) -> io::Result<Vec<String>> {
+        Err(io::Error::from(ErrorKind::Unsupported))
+    }
+
+    /// Whether standard error is a terminal's: somebody may wait there, who is told how far a long task is.
+    fn has_progress(&self) -> bool {
+        false
+    }
 
     /// Whether standard input and standard error are both a terminal's: whoever may type the one reads the other.
     fn has_terminal(&self) -> bool {
@@ -146,6 +158,23 @@ impl Folder for HostRuntime {
 
     fn remove(&self, _permit: Permit, name: &str) {
         let _ = fs::remove_file(self, name);
+    }
+
+    fn list(&self, alloc: Global, dir: &str) -> io::Result<Vec<String>> {
+        let mut names = Vec::new(alloc);
+        for entry in fs::read_dir(self, dir)? {
+            match entry {
+                Ok(entry) => names.push(String::from_str(alloc, entry.file_name())?)?,
+                // No word can name such a file.
+                Err(error) if error.kind() == ErrorKind::InvalidFilename => {}
+                Err(error) => return Err(error),
+            }
+        }
+        Ok(names)
+    }
+
+    fn has_progress(&self) -> bool {
+        self.stderr().is_terminal()
     }
 
     fn has_terminal(&self) -> bool {

@@ -8,6 +8,7 @@
 mod directory;
 mod file_words;
 mod folder;
+mod noted_talks;
 mod output_words;
 mod pipes;
 mod recovering;
@@ -18,6 +19,7 @@ mod saving;
 mod searching;
 mod status;
 mod streams;
+mod verifying;
 mod waiting;
 
 pub use directory::Directory;
@@ -32,5 +34,9 @@ pub use saving::{SaveFault, save};
 pub use searching::run_search;
 pub use status::{Status, TaskFault};
 pub use streams::Streams;
-pub use tas_words::{Invocation, Order, Pair, RecoveryWords, SearchWords, Start, Task, read_words};
+pub use tas_words::{
+    Invocation, Order, Pair, PartWords, RecoveryWords, SearchWords, Start, TalkWords, Task,
+    VerifyWords, read_words,
+};
+pub use verifying::run_verify;
 pub use waiting::tell_waiting;

@@ -3,13 +3,14 @@
 //! The file may be that of standard input where the output is a movie made of it, and none that a word names: a movie is
 //! edited in place on purpose, and a cartridge replaced by a movie by mistake. The output of `diff` is a script, so it
 //! doesn't replace the newer movie; that of `new` is a blank movie, so it replaces nothing. A conversation edits MOVIE in
-//! place, but its movie replaces neither its lines nor its answers; one without MOVIE begins a movie, as `new` does. What
+//! place, but its movie replaces neither its lines nor its answers; one without MOVIE begins a movie, as `new` does. Nor does it
+//! replace its journal: no file is there yet by which the two could be seen to be one, so their names are compared. What
 //! isn't an ordinary file is refused at the rename, since root could replace a device.
 
 ghost use Rattle.std.specs.Prelude.{◌≡◌, Some, option_map};
 ghost use Rattle.tas_program.specs.FileWords.{IsSeen};
-ghost use Rattle.tas_program.specs.OutputWords.{AreInputsSeen, OutputEnds, answers_input, cart_input, has_some, old_input, other_input};
-ghost use Rattle.tas_program.specs.OutputWords.{output_fault, script_input, starts_movie, stream_input};
+ghost use Rattle.tas_program.specs.OutputWords.{AreInputsSeen, OutputEnds, answers_input, cart_input, has_some, is_journal, old_input, other_input};
+ghost use Rattle.tas_program.specs.OutputWords.{name_fault, output_fault, script_input, starts_movie, stream_input};
 
 use crate::file_words::{SeenWord, cart_of as cart_of_talk, same_among};
 use crate::{FileWord, Folder, OrdinaryFile, Permit, WordFault, check_words};
@@ -26,7 +27,7 @@ fn cart_of<'a>(task: Task<'a>) -> Option<&'a str>
         Task::Cut { cart, .. } => Some(cart),
         Task::Edit { cart, .. } => Some(cart),
         Task::Diff { cart, old: _ } => Some(cart),
-        Task::Talk(start) => cart_of_talk(start),
+        Task::Talk(words) => cart_of_talk(words.start),
         _ => None,
     }
 }
@@ -113,7 +114,10 @@ fn starts_movie(task: Task<'_>) -> bool
 {
     match task {
         Task::New { .. } => true,
-        Task::Talk(Start::Blank) | Task::Talk(Start::Cart { .. }) => true,
+        Task::Talk(words) => match words.start {
+            Start::Blank | Start::Cart { .. } => true,
+            Start::Movie(_) => false,
+        },
         _ => false,
     }
 }
@@ -128,10 +132,42 @@ fn has_some(file: Option<OrdinaryFile>) -> bool
     }
 }
 
+/// Whether a task has a journal of this name.
+fn is_journal(task: Task<'_>, name: &str) -> bool
+    ensures { result ≡ is_journal task.entry name.now }
+{
+    match task {
+        Task::Talk(words) => match words.journal {
+            Some(journal) => journal == name,
+            None => false,
+        },
+        _ => false,
+    }
+}
+
+/// What is wrong with the name of the file that an output replaces.
+fn name_fault(task: Task<'_>, name: &str) -> Option<WordFault>
+    ensures { result ≡ name_fault task.entry name.now }
+{
+    if is_journal(task, name) {
+        Some(WordFault::SameFile {
+            word: FileWord::File,
+            other: FileWord::Journal,
+        })
+    } else {
+        None
+    }
+}
+
 /// What is wrong with the file that an output replaces.
-fn output_fault(task: Task<'_>, inputs: &[SeenWord], file: SeenWord) -> Option<WordFault>
+fn output_fault(
+    task: Task<'_>,
+    inputs: &[SeenWord],
+    name: &str,
+    file: SeenWord,
+) -> Option<WordFault>
     requires { file.word ≡ FileWord.File }
-    ensures { result ≡ output_fault task.entry inputs.now file.file }
+    ensures { result ≡ output_fault task.entry inputs.now name.now file.file }
 {
     match same_among(inputs, file) {
         Some(other) => Some(WordFault::SameFile {
@@ -144,7 +180,7 @@ fn output_fault(task: Task<'_>, inputs: &[SeenWord], file: SeenWord) -> Option<W
                     word: FileWord::File,
                 })
             } else {
-                None
+                name_fault(task, name)
             }
         }
     }
@@ -154,13 +190,14 @@ fn output_fault(task: Task<'_>, inputs: &[SeenWord], file: SeenWord) -> Option<W
 /// file. Then it is an error where the file that the output replaces is the ordinary file of another word, or for [`Task::New`] an ordinary
 /// file with bytes. Standard input may be this file, since it is read whole before, but not for [`Task::Diff`] and [`Task::Recover`]. For
 /// [`Task::Talk`] the file
-/// may be the movie's, but not that of standard input or output, and it may have bytes only where the conversation starts from a movie.
+/// may be the movie's, but not that of standard input or output, it may have bytes only where the conversation starts from a movie, and its
+/// name may not be that of the journal.
 pub fn check_output<F: Folder>(folder: &F, task: Task<'_>, file: &str) -> Result<Permit, WordFault>
     // Where a word of the task is at fault, the task ends with this fault, and no stream is read or written. So it does where
     // the file is the ordinary file of CART, SCRIPT, OTHER or OLD, or for `diff` and `recover` that of standard input, for `talk`
-    // that of standard input or output, or for `new`, and for `talk` without MOVIE, has bytes, by what the folder showed. Else it is
-    // saved.
-    // Refused: answers_may_be_replaced, movie_begun_in_a_conversation_may_replace_one, script_may_be_replaced, output_may_replace_any_file, script_may_replace_the_newer_movie,
+    // that of standard input or output, or for `new`, and for `talk` without MOVIE, has bytes, by what the folder showed, or where it
+    // has the name of the journal. Else it is saved.
+    // Refused: movie_may_replace_the_journal_beside_it, answers_may_be_replaced, movie_begun_in_a_conversation_may_replace_one, script_may_be_replaced, output_may_replace_any_file, script_may_replace_the_newer_movie,
     // movie_may_replace_its_journal,
     // blank_movie_may_replace_a_movie, words_at_fault_are_saved.
     ensures { OutputEnds (F.shown folder.now) task.entry file.now result }
@@ -168,7 +205,7 @@ pub fn check_output<F: Folder>(folder: &F, task: Task<'_>, file: &str) -> Result
     let inputs = see_inputs(folder, task);
     let output = see(folder, FileWord::File, Some(file));
     match check_words(folder, task) {
-        Ok(permit) => match output_fault(task, &inputs, output) {
+        Ok(permit) => match output_fault(task, &inputs, file, output) {
             Some(fault) => Err(fault),
             None => Ok(permit),
         },

@@ -10,13 +10,12 @@ ghost use Rattle.std.specs.Io.KnownBytes.{Appends};
 ghost use Rattle.tas_engines.specs.declared.fault.RunFault.{RunFault};
 ghost use Rattle.tas_engines.specs.Commands.{IsRun};
 ghost use Rattle.tas_engines.specs.Output.{StopsWriting};
-ghost use Rattle.tas_words.specs.declared.task.Task.TheVariants.{Desk, Edit, Script, Talk};
+ghost use Rattle.tas_words.specs.declared.task.Task.TheVariants.{Desk, Edit, Script};
 ghost use Rattle.tas_program.specs.Files.{files_by};
-ghost use Rattle.tas_program.specs.Program.{EndsOver, DoesTask, IsTaskRun, CarriesOut, ProgramEnds, end_status, tool_end};
+ghost use Rattle.tas_program.specs.Program.{EndsOver, DoesTask, IsTaskRun, CarriesOut, ProgramEnds, end_status, talk_of, tool_end};
 ghost use Rattle.tas_program.specs.Reporting.{reported_of};
 
 use crate::pipes::pipes_of;
-use crate::saved_talks::hold_talk;
 use crate::searching::do_task;
 use crate::{Folder, Permit, Status, Streams, TaskFault, check_words, save_task, tell_waiting};
 use std::alloc::{Allocator, Global};
@@ -25,12 +24,13 @@ use std::io;
 use std::io::{Read, Write};
 use std::sync::Wait;
 use std::thread::Threads;
+use std::time::Clock;
 use tas_engines::{Command, Whole, commands, run};
 use tas_tool::{
     ReadFault, RunFault, ToolFault, desk_run, export_run, film_run, movie_script_run, script_run,
     write_all,
 };
-use tas_words::{Invocation, MovieFiles, Pairs, Start, Task, collect_words, read_invocation};
+use tas_words::{Invocation, MovieFiles, Pairs, Task, collect_words, read_invocation};
 
 /// Opens a file of this name.
 pub(crate) fn open<F: Folder>(folder: &F, name: &str) -> Result<F::File, ToolFault>
@@ -140,23 +140,6 @@ fn run_edit<A: Allocator + Copy, F: Folder, R: Read, W: Write>(
     }
 }
 
-/// Answers the lines of the input.
-fn run_talk<T: Wait, A: Allocator + Copy, F: Folder, R: Read, W: Write>(
-    rt: &T,
-    alloc: A,
-    start: Start<'_>,
-    folder: &F,
-    input: &mut R,
-    output: &mut W,
-) -> Result<(), ToolFault>
-    ensures { DoesTask (files_by (F.bytes_of folder.now) (F.held_by folder.now) (F.shown folder.now))
-        (Talk start.entry)
-        (record { input = R.remaining input.old; output = W.contents output.old })
-        (record { input = R.remaining input.new; output = W.contents output.new }) result }
-{
-    hold_talk(rt, alloc, start, folder, input, output).end
-}
-
 /// Answers the lines of several files at once, on one movie.
 fn run_desk<T: Wait + Threads + Sync, F: Folder + Sync, W: Write>(
     rt: &T,
@@ -181,7 +164,7 @@ fn run_desk<T: Wait + Threads + Sync, F: Folder + Sync, W: Write>(
     desk_run(rt, alloc, &mut cart, &mut movie, &mut doors, output)
 }
 
-/// Does a task that reports nothing by its engine, over the two streams that engines know. `Task::Desk` takes its memory from `global`,
+/// Does a task that reports nothing, and is no conversation, by its engine, over the two streams that engines know. `Task::Desk` takes its memory from `global`,
 /// each other task from `alloc`.
 pub(crate) fn run_engine<
     T: Wait + Threads + Sync,
@@ -199,7 +182,8 @@ pub(crate) fn run_engine<
     input: &mut R,
     output: &mut W,
 ) -> Result<(), ToolFault>
-    requires { reported_of task ≡ None }
+    requires reports { reported_of task ≡ None }
+    requires talk { talk_of task ≡ None }
     ensures { DoesTask (files_by (F.bytes_of folder.now) (F.held_by folder.now) (F.shown folder.now))
         task.entry
         (record { input = R.remaining input.old; output = W.contents output.old })
@@ -222,6 +206,7 @@ pub(crate) fn run_engine<
         }
         Task::Recover(_) => unreachable!(),
         Task::Search(_) => unreachable!(),
+        Task::Verify(_) => unreachable!(),
         Task::Shot { cart, frame } => {
             let command = commands::Shot { frame };
             run_over(alloc, &command, &[cart], folder, input, output)
@@ -268,7 +253,7 @@ pub(crate) fn run_engine<
             run_over(alloc, &command, &[cart, old], folder, input, output)
         }
         Task::Script(start) => run_script(rt, alloc, start, folder, input, output),
-        Task::Talk(start) => run_talk(rt, alloc, start, folder, input, output),
+        Task::Talk(_) => unreachable!(),
         Task::Desk { cart, movie, pairs } => {
             run_desk(rt, global, cart, movie, pairs, permit, folder, output)
         }
@@ -289,7 +274,7 @@ pub(crate) fn ended(end: Result<(), ToolFault>) -> Result<(), TaskFault>
 /// opened. Then the files are opened, a failure being `Read`, but for the pairs of a desk, which its conversations open. Then the engine
 /// reads the files and the input, and writes its answer to the output.
 pub fn run_task<
-    T: Wait + Threads + Sync,
+    T: Wait + Threads + Clock + Sync,
     A: Allocator + Copy + Send + Sync,
     F: Folder + Sync,
     R: Read,
@@ -317,15 +302,21 @@ pub fn run_task<
     // input is read.
     // Refused: second_pair_is_left_out, each_pair_is_the_first, seventh_pair_stands_for_the_eighth,
     // movie_and_cartridge_of_a_desk_are_swapped.
-    // Where two words of `tas desk` or `tas talk` stand for one ordinary file, or an OUT for one that has bytes, by
-    // what the folder showed of each word, the task isn't begun: it ends with the fault of the first such word, and
-    // neither stream is read or written. Else it is done, and has no fault of a word.
+    // A conversation whose words name a journal is held with one: its files are opened, then the folder makes a new file of
+    // this name, by a step that it states, and then the conversation's definition in `tas_tool` holds with a journal that
+    // begins with what this file holds. Where a file can't be opened or made, neither stream is read or written, and no movie is left.
+    // Refused: journal_is_left_out, journal_has_another_name, failed_journal_is_a_good_end.
+    // Where two words of `tas desk` or `tas talk` stand for one ordinary file, or an OUT for one that has bytes, or a
+    // JOURNAL for one, by what the folder showed of each word, the task isn't begun: it ends with the fault of the first
+    // such word, and neither stream is read or written. Else it is done, and has no fault of a word.
+    // Refused: journal_may_be_there, journal_is_not_looked_at.
     // Refused: words_are_compared_with_none, device_is_not_compared, files_of_one_device_are_one_file,
     // file_of_one_byte_is_written_over, lines_that_have_bytes_are_at_fault, answers_may_go_into_the_lines,
     // no_file_is_looked_at, each_word_is_looked_at_as_the_first, movie_of_a_desk_is_not_looked_at,
     // second_output_is_not_looked_at, lines_are_looked_at_for_the_answers, bytes_are_reported_before_the_same_file,
     // word_is_reported_as_its_own_file, fault_names_the_earlier_word_twice.
-    ensures { IsTaskRun (files_by (F.bytes_of folder.now) (F.held_by folder.now) (F.shown folder.now))
+    ensures { IsTaskRun F.steps
+        (files_by (F.bytes_of folder.now) (F.held_by folder.now) (F.shown folder.now))
         task.entry streams.old streams.new result }
 {
     let permit = match check_words(folder, task) {
@@ -374,8 +365,13 @@ fn report<A: Allocator, E: Write>(alloc: A, errors: &mut E, end: Result<(), Task
                 TaskFault::Tool(_) => Status::Fault,
                 TaskFault::Search(_) => Status::Fault,
                 TaskFault::Recover(_) => Status::Fault,
+                TaskFault::Verify(_) => Status::Fault,
+                TaskFault::NoCarts => Status::Fault,
+                TaskFault::NotAll => Status::Fault,
                 TaskFault::Report(_) => Status::Fault,
                 TaskFault::NoReport => Status::Fault,
+                TaskFault::NoJournal => Status::Fault,
+                TaskFault::Journal(_) => Status::Fault,
                 TaskFault::Save(_) => Status::Fault,
             }
         }
@@ -395,7 +391,7 @@ fn show<W: Write>(output: &mut W, text: &str) -> Result<(), ToolFault>
 /// Carries an invocation out, and returns the program's status: 0 where it was done, 1 after a fault, and 2 where a word is at fault or
 /// the words weren't understood. The line of a fault, or the text about the words, goes to standard error.
 pub fn carry_out<
-    T: Wait + Threads + Sync,
+    T: Wait + Threads + Clock + Sync,
     A: Allocator + Copy + Send + Sync,
     F: Folder + Sync,
     R: Read,
@@ -414,7 +410,7 @@ pub fn carry_out<
     // words aren't understood. Where the output replaces a file, the end is 0 only where the engine is done and the file was
     // given the output, or the movie that a conversation leaves, as the folder states its steps.
     // Refused: fault_ends_with_status_0, search_without_an_answer_ends_with_status_0*,
-    // recovery_without_an_answer_ends_with_status_0*, program_saves_under_another_name,
+    // recovery_without_an_answer_ends_with_status_0*, difference_ends_with_status_0, program_saves_under_another_name,
     // word_at_fault_ends_with_status_1, misuse_ends_with_status_1*, misuse_is_shown_as_help*.
     ensures { CarriesOut F.steps
         (files_by (F.bytes_of folder.now) (F.held_by folder.now) (F.shown folder.now))
@@ -445,11 +441,11 @@ pub fn carry_out<
     }
 }
 
-/// The whole program: reads the words, the first of which is its name, and does what they ask for. clap, `Task::Search`, `Task::Recover` and
+/// The whole program: reads the words, the first of which is its name, and does what they ask for. clap, `Task::Search`, `Task::Recover`, `Task::Verify` and
 /// `Task::Desk` take their memory from `global` alone, all else from `alloc`. Somebody at a terminal is told what a task waits for
 /// ([`tell_waiting`]), once no word of it is at fault.
 pub fn run_program<
-    T: Wait + Threads + Sync,
+    T: Wait + Threads + Clock + Sync,
     A: Allocator + Copy + Send + Sync,
     F: Folder + Sync,
     R: Read,

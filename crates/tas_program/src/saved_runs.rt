@@ -15,6 +15,7 @@ use std::alloc::{Allocator, Global};
 use std::io::{Read, Write};
 use std::sync::Wait;
 use std::thread::Threads;
+use std::time::Clock;
 use tas_journal::RecoveryFault;
 use tas_search::SearchError;
 use tas_tool::{RunFault, ToolFault};
@@ -76,7 +77,7 @@ fn saved_end(end: Result<(), SaveFault>) -> Result<(), TaskFault>
 /// nothing is written to standard output. The output is held in memory until the engine is done; after a fault of the engine's no file is
 /// touched. The files that the task's words name must have been looked at ([`check_output`]).
 pub fn save_run<
-    T: Wait + Threads + Sync,
+    T: Wait + Threads + Clock + Sync,
     A: Allocator + Copy + Send + Sync,
     F: Folder + Sync,
     D: Directory,
@@ -97,7 +98,7 @@ pub fn save_run<
     // A task whose output replaces a file is done as without, but its output is the text that the file gets, and
     // standard output has nothing. After an engine's fault no file is touched, in a directory whose files are known.
     // Refused: output_of_a_fault_is_saved.
-    ensures { SavesTask D.steps
+    ensures { SavesTask D.steps F.steps
         (files_by (F.bytes_of folder.now) (F.held_by folder.now) (F.shown folder.now))
         task.entry file.now streams.old streams.new
         (D.files directory.old) (D.files directory.new) result }
@@ -125,7 +126,7 @@ pub fn save_run<
 /// Does a task whose output replaces a file: first the files that its words name are looked at ([`check_output`]); where one is at fault,
 /// as where this file is one of them, nothing is opened. Then it does as [`save_run`], or for [`Task::Talk`] as [`save_talk`].
 pub fn save_task<
-    T: Wait + Threads + Sync,
+    T: Wait + Threads + Clock + Sync,
     A: Allocator + Copy + Send + Sync,
     F: Folder + Sync,
     R: Read,
@@ -153,7 +154,9 @@ pub fn save_task<
         Ok(permit) => {
             let mut names = Names::new(folder, permit);
             match talk_of(task) {
-                Some(start) => save_talk(rt, alloc, start, file, folder, &mut names, streams),
+                Some(words) => save_talk(
+                    rt, alloc, words, permit, file, folder, &mut names, streams,
+                ),
                 None => save_run(
                     rt, global, alloc, task, file, permit, folder, &mut names, streams,
                 ),

@@ -1,4 +1,4 @@
-//! Conversations, and those whose movie replaces a file.
+//! Conversations without a journal, and those whose movie replaces a file.
 //!
 //! The movie is saved whatever ended the conversation: a client that is gone, or a write that fails, loses no edit that
 //! was answered. Where it can't be saved that is the fault that is reported, as at the end of a desk. The new file is made at
@@ -11,21 +11,22 @@ ghost use Rattle.tas_program.specs.Saving.{SaveEnds};
 ghost use Rattle.tas_movie.specs.Text.{text2};
 ghost use Rattle.tas_tool.specs.Talk.{IsCartTalkLeaving, IsMovieTalkLeaving};
 
-use crate::running::{ended, open};
-use crate::{Directory, Folder, SaveFault, Streams, TaskFault, save};
+use crate::noted_talks::{Held, hold_words};
+use crate::running::open;
+use crate::{Directory, Folder, Permit, SaveFault, Streams, TaskFault, save};
 use std::alloc::Allocator;
 use std::io::{Read, Write};
 use std::sync::Wait;
 use tas_movie::{Movie, print_text};
 use tas_tool::{ReadFault, Talked, ToolFault, cart_talk_run, movie_talk_run, talk_run};
-use tas_words::{Start, Task};
+use tas_words::{Start, TalkWords, Task};
 
-/// What a task's conversation starts from, if it is one.
-pub(crate) fn talk_of<'a>(task: Task<'a>) -> Option<Start<'a>>
+/// The words of a task's conversation, if it is one.
+pub(crate) fn talk_of<'a>(task: Task<'a>) -> Option<TalkWords<'a>>
     ensures { result ≡ talk_of task.entry }
 {
     match task {
-        Task::Talk(start) => Some(start),
+        Task::Talk(words) => Some(words),
         _ => None,
     }
 }
@@ -42,7 +43,11 @@ fn unopened<A: Allocator>(fault: ToolFault) -> Talked<A>
 }
 
 /// Opens two files of these names.
-fn open_two<F: Folder>(folder: &F, cart: &str, movie: &str) -> Result<(F::File, F::File), ToolFault>
+pub(crate) fn open_two<F: Folder>(
+    folder: &F,
+    cart: &str,
+    movie: &str,
+) -> Result<(F::File, F::File), ToolFault>
     ensures cart { IfOk result (λ two. F.File.remaining two.0 ≡ F.bytes_of folder.now cart.now) }
     ensures movie { IfOk result (λ two. F.File.remaining two.1 ≡ F.bytes_of folder.now movie.now) }
     ensures fault { IfErr result (λ fault. fault ≡ ToolFault.Read ReadFault.Failed) }
@@ -135,11 +140,11 @@ fn save_movie<A: Allocator + Copy, D: Directory>(
 }
 
 /// The end where a conversation ended so, and its movie was to replace a file.
-fn left_end(done: Result<(), ToolFault>, saved: Result<(), SaveFault>) -> Result<(), TaskFault>
+fn left_end(done: Result<(), TaskFault>, saved: Result<(), SaveFault>) -> Result<(), TaskFault>
     ensures { result ≡ left_end done saved }
 {
     match saved {
-        Ok(()) => ended(done),
+        Ok(()) => done,
         Err(fault) => Err(TaskFault::Save(fault)),
     }
 }
@@ -149,15 +154,15 @@ fn save_left<A: Allocator + Copy, D: Directory>(
     alloc: A,
     directory: &mut D,
     file: &str,
-    talked: Talked<A>,
+    held: Held<A>,
 ) -> Result<(), TaskFault>
-    ensures { LeftAfter D.steps talked.end talked.movie file.now
+    ensures { LeftAfter D.steps held.end held.movie file.now
         (D.files directory.old) (D.files directory.new) result }
 {
-    let Talked { end, movie } = talked;
+    let Held { end, movie } = held;
     match movie {
         Some(movie) => left_end(end, save_movie(alloc, directory, file, &movie)),
-        None => ended(end),
+        None => end,
     }
 }
 
@@ -175,7 +180,8 @@ pub fn save_talk<
 >(
     rt: &T,
     alloc: A,
-    start: Start<'_>,
+    words: TalkWords<'_>,
+    permit: Permit,
     file: &str,
     folder: &F,
     directory: &mut D,
@@ -186,18 +192,19 @@ pub fn save_talk<
     // the file comes before that of the conversation; where there is none, the text was given as `save` says, as the
     // directory states its steps.
     // Refused: movie_of_a_conversation_is_not_saved, movie_is_saved_only_after_a_good_end, fault_of_the_file_is_lost.
-    ensures { SavesTalk D.steps
+    ensures { SavesTalk D.steps F.steps
         (files_by (F.bytes_of folder.now) (F.held_by folder.now) (F.shown folder.now))
-        start.entry file.now streams.old streams.new
+        words.entry file.now streams.old streams.new
         (D.files directory.old) (D.files directory.new) result }
 {
-    let talked = hold_talk(
+    let held = hold_words(
         rt,
         alloc,
-        start,
+        words,
+        permit,
         folder,
         &mut streams.input,
         &mut streams.output,
     );
-    save_left(alloc, directory, file, talked)
+    save_left(alloc, directory, file, held)
 }

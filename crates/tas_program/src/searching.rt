@@ -9,21 +9,25 @@
 
 ghost use Rattle.std.specs.Prelude.{◌≡◌, ◌⊎◌, map, IfOk, IfErr};
 ghost use Rattle.tas_program.specs.Files.{files_by};
-ghost use Rattle.tas_program.specs.Program.{EngineEnds};
+ghost use Rattle.tas_program.specs.Program.{EngineEnds, talk_of};
 ghost use Rattle.tas_program.specs.Reporting.{ReportedEnds, reported_of};
 ghost use Rattle.tas_program.specs.Searching.{IsAskedFor, Reports, ReportsVerdict, RunsSearch, SearchEnds, Searches, SearchesOver, bytes_end, search_files};
 ghost use Rattle.tas_search.specs.Logs.{log_bytes};
 
+use crate::noted_talks::hold_words;
 use crate::recovering::run_recovery;
 use crate::running::{ended, open_all, run_engine};
+use crate::saved_talks::talk_of;
+use crate::verifying::run_verify;
 use crate::{Folder, Permit, TaskFault};
 use std::alloc::{Allocator, Global};
 use std::io::{Read, Write, sink};
 use std::sync::Wait;
 use std::thread::Threads;
-use tas_search::{Search, search_run};
+use std::time::Clock;
+use tas_search::{Search, SpacePart, search_run};
 use tas_tool::{ReadFault, ToolFault, write_all};
-use tas_words::{RecoveryWords, SearchWords, Task};
+use tas_words::{RecoveryWords, SearchWords, Task, VerifyWords};
 
 /// The words of a task that reports to standard error beside its output.
 #[derive(Clone, Copy)]
@@ -32,6 +36,8 @@ pub(crate) enum Reported<'a> {
     Search(SearchWords<'a>),
     /// A recovery, which reports how many edits were made.
     Recovery(RecoveryWords<'a>),
+    /// A verification, which reports how far it is.
+    Verification(VerifyWords<'a>),
 }
 
 /// The words of a task that reports.
@@ -41,6 +47,7 @@ fn reported_of<'a>(task: Task<'a>) -> Option<Reported<'a>>
     match task {
         Task::Search(words) => Some(Reported::Search(words)),
         Task::Recover(words) => Some(Reported::Recovery(words)),
+        Task::Verify(words) => Some(Reported::Verification(words)),
         _ => None,
     }
 }
@@ -53,6 +60,10 @@ fn asked_of<'a>(words: SearchWords<'a>) -> Search<'a>
         from: words.from,
         frames: words.frames,
         hold: words.hold,
+        part: SpacePart {
+            number: words.part.number,
+            of: words.part.of,
+        },
         states: words.states,
         workers: words.workers,
         has_choices: words.choices.is_some(),
@@ -87,7 +98,7 @@ fn open_inputs<F: Folder>(
 }
 
 /// Searches by these words over files that are open, reports its layers, writes the script and returns the verdict.
-fn search_over<T: Threads + Sync, C: Read, R: Read, W: Write, E: Write, P: Write>(
+fn search_over<T: Threads + Clock + Sync, C: Read, R: Read, W: Write, E: Write, P: Write>(
     rt: &T,
     alloc: Global,
     words: SearchWords<'_>,
@@ -129,7 +140,7 @@ pub(crate) fn write_report<E: Write>(
 }
 
 /// Opens the files of a search by these words, reports its layers, writes the script and returns the verdict.
-fn verdict_of<T: Threads + Sync, F: Folder, R: Read, W: Write, E: Write, P: Write>(
+fn verdict_of<T: Threads + Clock + Sync, F: Folder, R: Read, W: Write, E: Write, P: Write>(
     rt: &T,
     alloc: Global,
     words: SearchWords<'_>,
@@ -186,7 +197,7 @@ fn write_verdict<E: Write, P: Write>(
 }
 
 /// Does a search with these two writers of its report.
-fn search_with<T: Threads + Sync, F: Folder, R: Read, W: Write, E: Write, P: Write>(
+fn search_with<T: Threads + Clock + Sync, F: Folder, R: Read, W: Write, E: Write, P: Write>(
     rt: &T,
     alloc: Global,
     words: SearchWords<'_>,
@@ -222,7 +233,7 @@ fn remove_empty<F: Folder>(permit: Permit, folder: &F, name: &str) {
 /// Faults: `NoReport` where the report's file can't be made, since there is one of its name, say, and then nothing is opened; `Tool` where a
 /// file can't be opened, `Search` of the search, and then the report has no verdict; `Report` where the verdict isn't written whole, and then
 /// the script is. A file of a report that has no line at a fault is removed.
-pub fn run_search<T: Threads + Sync, F: Folder, R: Read, W: Write, E: Write>(
+pub fn run_search<T: Threads + Clock + Sync, F: Folder, R: Read, W: Write, E: Write>(
     rt: &T,
     alloc: Global,
     words: SearchWords<'_>,
@@ -236,8 +247,8 @@ pub fn run_search<T: Threads + Sync, F: Folder, R: Read, W: Write, E: Write>(
     // goal. It is done only where its report, the lines of the layers and the verdict, is written whole to `errors`, and to a new file
     // where the words name one, as the folder states its steps.
     // Refused: verdict_is_left_out, unwritten_verdict_is_a_good_end, verdict_goes_to_standard_output,
-    // names_file_is_read_for_the_choices, each_choice_is_held_for_one_frame, search_keeps_as_many_states_as_it_has_frames,
-    // report_file_is_left_out.
+    // names_file_is_read_for_the_choices, each_choice_is_held_for_one_frame, every_part_is_the_first,
+    // search_keeps_as_many_states_as_it_has_frames, report_file_is_left_out.
     ensures { RunsSearch F.steps
         (files_by (F.bytes_of folder.now) (F.held_by folder.now) (F.shown folder.now)) words.entry
         (record { input = R.remaining input.old; output = W.contents output.old })
@@ -271,8 +282,8 @@ pub fn run_search<T: Threads + Sync, F: Folder, R: Read, W: Write, E: Write>(
     }
 }
 
-/// Does a task that reports, as [`run_search`] and [`run_recovery`] do.
-fn run_reported<T: Threads + Sync, F: Folder, R: Read, W: Write, E: Write>(
+/// Does a task that reports, as [`run_search`], [`run_recovery`] and [`run_verify`] do.
+fn run_reported<T: Threads + Clock + Sync, F: Folder + Sync, R: Read, W: Write, E: Write>(
     rt: &T,
     alloc: Global,
     words: Reported<'_>,
@@ -293,13 +304,17 @@ fn run_reported<T: Threads + Sync, F: Folder, R: Read, W: Write, E: Write>(
             run_search(rt, alloc, words, permit, folder, input, output, errors)
         }
         Reported::Recovery(words) => run_recovery(alloc, words, folder, input, output, errors),
+        Reported::Verification(words) => {
+            run_verify(rt, alloc, words, folder, input, output, errors)
+        }
     }
 }
 
-/// Does a task by its engine, over the input and the output; the report of a search or a recovery goes to `errors`. These two and
+/// Does a task by its engine, over the input and the output; the report of a search, a recovery or a verification goes to `errors`, and the journal of a
+/// conversation to a new file. The first three and
 /// `Task::Desk` take their memory from `global`, each other task from `alloc`.
 pub(crate) fn do_task<
-    T: Wait + Threads + Sync,
+    T: Wait + Threads + Clock + Sync,
     A: Allocator + Copy + Send + Sync,
     F: Folder + Sync,
     R: Read,
@@ -316,16 +331,20 @@ pub(crate) fn do_task<
     output: &mut W,
     errors: &mut E,
 ) -> Result<(), TaskFault>
-    ensures { EngineEnds (files_by (F.bytes_of folder.now) (F.held_by folder.now) (F.shown folder.now))
-        (reported_of task.entry) task.entry
+    ensures { EngineEnds F.steps
+        (files_by (F.bytes_of folder.now) (F.held_by folder.now) (F.shown folder.now))
+        (reported_of task.entry) (talk_of task.entry) task.entry
         (record { input = R.remaining input.old; output = W.contents output.old })
         (record { input = R.remaining input.new; output = W.contents output.new }) result }
 {
     match reported_of(task) {
         Some(words) => run_reported(rt, global, words, permit, folder, input, output, errors),
-        None => {
-            let end = run_engine(rt, global, alloc, task, permit, folder, input, output);
-            ended(end)
-        }
+        None => match talk_of(task) {
+            Some(words) => hold_words(rt, alloc, words, permit, folder, input, output).end,
+            None => {
+                let end = run_engine(rt, global, alloc, task, permit, folder, input, output);
+                ended(end)
+            }
+        },
     }
 }

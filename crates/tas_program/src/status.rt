@@ -6,7 +6,8 @@ ghost use Rattle.tas_program.specs.Program.{status_code};
 use crate::{SaveFault, WordFault};
 use tas_journal::RecoveryFault;
 use tas_search::SearchError;
-use tas_tool::{RunFault, ToolFault};
+use tas_tool::{JournalFault, RunFault, ToolFault};
+use tas_verify::VerifyFault;
 use thiserror::Error;
 
 /// Why a task wasn't done. Its text is the line, without the newline, that the program writes to standard error.
@@ -24,6 +25,15 @@ pub enum TaskFault {
     /// It is a recovery, and nothing was recovered: the status is 1.
     #[error("{0}")]
     Recover(RecoveryFault),
+    /// It is a verification, and not all lines are written: the status is 1.
+    #[error("{0}")]
+    Verify(VerifyFault),
+    /// It is a verification, and the directory of its cartridges can't be listed: the status is 1, and nothing is read.
+    #[error("fault: carts: read failed")]
+    NoCarts,
+    /// It is a verification that is written whole, and not all of its movies are the same: the status is 1.
+    #[error("fault: not all movies are ok")]
+    NotAll,
     /// Its output is written, but of its report, as of a search's verdict, only the first bytes are: the status is 1. With `Memory` it is a
     /// recovery, and no byte of the report is.
     #[error("fault: report: {0}")]
@@ -31,6 +41,12 @@ pub enum TaskFault {
     /// It is a search, and the file of its report can't be made: the status is 1, and nothing is read.
     #[error("fault: report: not created")]
     NoReport,
+    /// It is a conversation, and the file of its journal can't be made: the status is 1, and nothing is read.
+    #[error("fault: journal: not created")]
+    NoJournal,
+    /// It is a conversation whose journal hasn't all edits, and nothing of the answer to the last one is written: the status is 1.
+    #[error("fault: journal: {0}")]
+    Journal(JournalFault),
     /// Its engine is done, but its output didn't replace the file: the status is 1.
     #[error("{0}")]
     Save(SaveFault),

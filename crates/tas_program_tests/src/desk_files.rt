@@ -9,6 +9,7 @@ use std::process::Abort;
 use std::sync::Wait;
 use std::sync::atomic::{AtomicU8, AtomicUsize, Ordering};
 use std::thread::Threads;
+use std::time::Clock;
 use tas_program::{Folder, OrdinaryFile, Permit, Streams, run_program};
 use test_streams::Giver;
 
@@ -75,11 +76,11 @@ impl Tape {
     }
 }
 
-/// A file that is written.
+/// A file that is written, with room for so many bytes.
 #[derive(Drop)]
 pub struct Sink<'a> {
-    tape: &'a Tape,
-    room: usize,
+    pub tape: &'a Tape,
+    pub room: usize,
 }
 
 impl Write for Sink<'_> {
@@ -184,10 +185,10 @@ impl<'a> Folder for DeskFolder<'a> {
     }
 }
 
-/// A tape of 128 bytes that has taken nothing.
-fn blank_tape<R: Abort>(rt: &R, alloc: Global) -> Tape {
+/// A tape of so many bytes that has taken nothing.
+pub fn blank_tape<R: Abort>(rt: &R, alloc: Global, size: usize) -> Tape {
     let mut bytes = Vec::new(alloc);
-    for _ in 0..128 {
+    for _ in 0..size {
         expect_ok(rt, bytes.push(AtomicU8::new(0)).ok().ok_or("no memory"));
     }
     Tape {
@@ -200,13 +201,16 @@ fn blank_tape<R: Abort>(rt: &R, alloc: Global) -> Tape {
 pub fn tapes<R: Abort>(rt: &R, alloc: Global, count: usize) -> Vec<Tape> {
     let mut all = Vec::new(alloc);
     for _ in 0..count {
-        expect_ok(rt, all.push(blank_tape(rt, alloc)).ok().ok_or("no memory"));
+        expect_ok(
+            rt,
+            all.push(blank_tape(rt, alloc, 128)).ok().ok_or("no memory"),
+        );
     }
     all
 }
 
 /// Runs the program with these words over this folder: its status, and how often it read standard input.
-pub fn run_desk<T: Threads + Wait + Abort + Sync, W: Write, E: Write>(
+pub fn run_desk<T: Threads + Wait + Clock + Abort + Sync, W: Write, E: Write>(
     rt: &T,
     alloc: Global,
     words: &[&str],

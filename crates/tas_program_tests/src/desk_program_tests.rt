@@ -9,6 +9,7 @@ use std::process::Abort;
 use std::sync::Wait;
 use std::sync::atomic::AtomicUsize;
 use std::thread::Threads;
+use std::time::Clock;
 use test_streams::{Failure, Room, Taker};
 
 /// The movie of one frame after `replace 0 1 R.... ..... .....`.
@@ -162,7 +163,7 @@ static CASES: [Case<'static>; 11] = [
 ];
 
 /// Fails where the program over this cartridge ends in another way.
-fn check_case<R: Threads + Wait + Abort + Sync>(
+fn check_case<R: Threads + Wait + Clock + Abort + Sync>(
     rt: &R,
     alloc: Global,
     game: &[u8],

@@ -9,6 +9,7 @@ use std::process::Abort;
 use std::sync::Wait;
 use std::sync::atomic::{AtomicUsize, Ordering};
 use std::thread::Threads;
+use std::time::Clock;
 
 const PAIR: &[&str] = &["desk", "game.bin", "other", "in0", "out0"];
 
@@ -330,7 +331,7 @@ fn folder_of<'a>(
 }
 
 /// Fails where the program over this cartridge ends in another way than with status 2 and this line, nothing opened, read or written.
-fn check_refusal<R: Threads + Wait + Abort + Sync>(
+fn check_refusal<R: Threads + Wait + Clock + Abort + Sync>(
     rt: &R,
     alloc: Global,
     game: &[u8],
@@ -349,7 +350,7 @@ fn check_refusal<R: Threads + Wait + Abort + Sync>(
 }
 
 /// Fails where the program over this cartridge ends in another way, or opens another number of files, or a pair has another answer.
-fn check_accepted<R: Threads + Wait + Abort + Sync>(
+fn check_accepted<R: Threads + Wait + Clock + Abort + Sync>(
     rt: &R,
     alloc: Global,
     game: &[u8],

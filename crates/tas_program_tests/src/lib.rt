@@ -12,6 +12,12 @@ mod desk_word_tests;
 #[cfg(test)]
 mod file_word_tests;
 #[cfg(test)]
+mod journal_files;
+#[cfg(test)]
+mod journal_program_tests;
+#[cfg(test)]
+mod journal_word_tests;
+#[cfg(test)]
 mod limit_tests;
 #[cfg(test)]
 mod movie_program_tests;
@@ -32,6 +38,8 @@ mod programs;
 #[cfg(test)]
 mod real_file_tests;
 #[cfg(test)]
+mod real_journal_tests;
+#[cfg(test)]
 mod real_output_tests;
 #[cfg(test)]
 mod real_report_tests;
@@ -49,6 +57,8 @@ mod talk_output_tests;
 mod tasks;
 #[cfg(test)]
 mod tip_tests;
+#[cfg(test)]
+mod verify_tests;
 #[cfg(test)]
 mod waiting_tests;
 #[cfg(test)]

@@ -8,6 +8,7 @@ use std::alloc::Global;
 use std::process::Abort;
 use std::sync::Wait;
 use std::thread::Threads;
+use std::time::Clock;
 
 /// `000=A9028500A90085004C00F0 FFC=00F0`: ends frame after frame by vertical sync, so that they are soon played. Their pictures
 /// are black.
@@ -59,7 +60,7 @@ fn check_ran<R: Abort>(rt: &R, words: &[&str], code: u8, output: &Tail, errors: 
 }
 
 /// Fails where the program, run with these words over these files, ends in another way.
-fn check_end<R: Threads + Wait + Abort + Sync>(
+fn check_end<R: Threads + Wait + Clock + Abort + Sync>(
     rt: &R,
     alloc: Global,
     words: &[&str],
@@ -78,7 +79,7 @@ type Case = (&'static [&'static str], End);
 
 /// Fails where the program, run with each of these words over the cartridge of brief frames, this other file and this input, ends
 /// in another way.
-fn check_ends<R: Threads + Wait + Abort + Sync>(
+fn check_ends<R: Threads + Wait + Clock + Abort + Sync>(
     rt: &R,
     alloc: Global,
     other: &[u8],
@@ -93,7 +94,7 @@ fn check_ends<R: Threads + Wait + Abort + Sync>(
 }
 
 /// The same over the older text of a movie with this many frames of nothing pressed.
-fn check_older<R: Threads + Wait + Abort + Sync>(
+fn check_older<R: Threads + Wait + Clock + Abort + Sync>(
     rt: &R,
     alloc: Global,
     frames: usize,
@@ -104,7 +105,7 @@ fn check_older<R: Threads + Wait + Abort + Sync>(
 }
 
 /// The same over the text of runs with these lines.
-fn check_runs<R: Threads + Wait + Abort + Sync>(
+fn check_runs<R: Threads + Wait + Clock + Abort + Sync>(
     rt: &R,
     alloc: Global,
     lines: &[u8],

@@ -9,6 +9,7 @@ use std::process::Abort;
 use std::sync::Wait;
 use std::sync::atomic::{AtomicUsize, Ordering};
 use std::thread::Threads;
+use std::time::Clock;
 use tas_program::{Invocation, Streams, carry_out, read_words, run_program};
 use test_streams::Giver;
 
@@ -118,7 +119,7 @@ struct End {
 }
 
 /// How the program ends with these words.
-fn run<R: Threads + Wait + Abort + Sync>(
+fn run<R: Threads + Wait + Clock + Abort + Sync>(
     rt: &R,
     alloc: Global,
     words: &[&str],
@@ -142,7 +143,7 @@ fn run<R: Threads + Wait + Abort + Sync>(
 }
 
 /// How a desk ends that was to replace the file `new`, which no words ask for.
-fn save_desk<R: Threads + Wait + Abort + Sync>(
+fn save_desk<R: Threads + Wait + Clock + Abort + Sync>(
     rt: &R,
     alloc: Global,
     folder: &DeskFolder<'_>,

@@ -48,7 +48,7 @@ fn ram_has_a_line_for_each_number_of_frames(rt: HostRuntime) {
 }
 
 /// The digests come from another program: of the image, of the movie's text, of 128 and of 256 zeros, and of the playfield's picture.
-const BY_FRAME: &[u8] = b"a26digest 1
+pub const BY_FRAME: &[u8] = b"a26digest 1
 profile 2
 cart 820c64e9933496de683a000c5e11f0510fb7b1699b2ce86471295236b284906d
 movie caf5bdb8fe9e228d8bf98c2d45b125cf280b57a0375b4729c5f3d295e5d56bde
@@ -57,7 +57,8 @@ frames 1 to 2 ram 38723a2e5e8a17aa7950dc008209944e898f69a7bd10a23c839d341e935fd5
 end 2 frames
 ";
 
-const BY_STRETCH: &[u8] = b"a26digest 1
+/// The same in one stretch.
+pub const BY_STRETCH: &[u8] = b"a26digest 1
 profile 2
 cart 820c64e9933496de683a000c5e11f0510fb7b1699b2ce86471295236b284906d
 movie caf5bdb8fe9e228d8bf98c2d45b125cf280b57a0375b4729c5f3d295e5d56bde

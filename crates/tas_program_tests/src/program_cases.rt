@@ -6,12 +6,13 @@ use std::alloc::Global;
 use std::process::Abort;
 use std::sync::Wait;
 use std::thread::Threads;
+use std::time::Clock;
 
 /// The words, the file `other`, the input, and what the program then writes and tells, by hand.
 pub type Case<'a> = (&'a [&'a str], &'a [u8], &'a [u8], &'a [u8], &'a [u8]);
 
 /// Fails where the program over this cartridge ends in another way: with status 0 where it tells nothing, and with 1 where it does.
-pub fn check_case<R: Threads + Wait + Abort + Sync>(
+pub fn check_case<R: Threads + Wait + Clock + Abort + Sync>(
     rt: &R,
     alloc: Global,
     game: &[u8],
@@ -26,7 +27,7 @@ pub fn check_case<R: Threads + Wait + Abort + Sync>(
 pub type Written<'a> = (&'a [&'a str], &'a [u8], &'a [u8], &'a [u8]);
 
 /// Fails where the program over the playfield's cartridge doesn't write just this.
-pub fn check_written<R: Threads + Wait + Abort + Sync>(
+pub fn check_written<R: Threads + Wait + Clock + Abort + Sync>(
     rt: &R,
     alloc: Global,
     cases: &[Written<'_>],
@@ -42,7 +43,7 @@ pub fn check_written<R: Threads + Wait + Abort + Sync>(
 pub type Refused<'a> = (&'a [&'a str], &'a [u8], &'a [u8], &'a [u8]);
 
 /// Fails where the program over this cartridge doesn't tell this fault, or writes something.
-pub fn check_refused<R: Threads + Wait + Abort + Sync>(
+pub fn check_refused<R: Threads + Wait + Clock + Abort + Sync>(
     rt: &R,
     alloc: Global,
     game: &[u8],
@@ -54,7 +55,7 @@ pub fn check_refused<R: Threads + Wait + Abort + Sync>(
 }
 
 /// The same over the playfield's cartridge.
-pub fn check_refused_over_playfield<R: Threads + Wait + Abort + Sync>(
+pub fn check_refused_over_playfield<R: Threads + Wait + Clock + Abort + Sync>(
     rt: &R,
     alloc: Global,
     cases: &[Refused<'_>],

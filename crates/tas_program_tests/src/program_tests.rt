@@ -13,6 +13,7 @@ use std::io::ErrorKind;
 use std::process::Abort;
 use std::sync::Wait;
 use std::thread::Threads;
+use std::time::Clock;
 use test_streams::{Failure, Room, Taker};
 
 /// The older text of this movie.
@@ -62,7 +63,7 @@ fn commands_write_their_answers(rt: HostRuntime) {
 }
 
 /// Fails where a command over the playfield's cartridge and this movie doesn't write these pictures.
-fn check_pictures<R: Threads + Wait + Abort + Sync>(
+fn check_pictures<R: Threads + Wait + Clock + Abort + Sync>(
     rt: &R,
     alloc: Global,
     words: &[&str],

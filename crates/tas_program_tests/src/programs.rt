@@ -12,6 +12,7 @@ use std::io::{Error, ErrorKind, Write};
 use std::process::Abort;
 use std::sync::Wait;
 use std::thread::Threads;
+use std::time::Clock;
 use tas_program::{Folder, OrdinaryFile, Permit, Streams, run_program};
 use test_streams::Taker;
 
@@ -71,7 +72,7 @@ fn push_word<R: Abort>(rt: &R, alloc: Global, words: &mut Vec<String>, word: &st
 
 /// Runs the program with these words over this folder and input: its status. What it writes, and what it tells of faults, goes to
 /// these writers.
-pub fn run_words<T: Threads + Wait + Sync, W: Write, E: Write>(
+pub fn run_words<T: Threads + Wait + Clock + Sync, W: Write, E: Write>(
     rt: &T,
     alloc: Global,
     words: io::Result<Args>,
@@ -89,7 +90,7 @@ pub fn run_words<T: Threads + Wait + Sync, W: Write, E: Write>(
 }
 
 /// The same with words that are text.
-pub fn run<T: Threads + Wait + Abort + Sync, W: Write, E: Write>(
+pub fn run<T: Threads + Wait + Clock + Abort + Sync, W: Write, E: Write>(
     rt: &T,
     alloc: Global,
     words: &[&str],
@@ -114,7 +115,7 @@ pub fn check_ran<R: Abort>(rt: &R, words: &[&str], found: End<'_>, wanted: End<'
 }
 
 /// Fails where the program, run with these words over this folder and input, ends in another way.
-pub fn check_run<T: Threads + Wait + Abort + Sync>(
+pub fn check_run<T: Threads + Wait + Clock + Abort + Sync>(
     rt: &T,
     alloc: Global,
     words: &[&str],
@@ -130,7 +131,7 @@ pub fn check_run<T: Threads + Wait + Abort + Sync>(
 }
 
 /// The same where the words can't be read.
-pub fn check_unread<T: Threads + Wait + Abort + Sync>(
+pub fn check_unread<T: Threads + Wait + Clock + Abort + Sync>(
     rt: &T,
     alloc: Global,
     kind: ErrorKind,

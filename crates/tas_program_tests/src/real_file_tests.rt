@@ -10,6 +10,7 @@ use std::os::unix::fs::symlink;
 use std::process::Abort;
 use std::sync::Wait;
 use std::thread::Threads;
+use std::time::Clock;
 use tas_program::{Folder, Streams, run_program};
 
 /// The folder of these files.
@@ -99,7 +100,7 @@ fn make_all<R: Files + Alloc + Abort>(rt: &R, game: &[u8]) {
 }
 
 /// Fails where the program ends in another way.
-fn check_case<R: Folder + Threads + Wait + Abort + Sync>(
+fn check_case<R: Folder + Threads + Wait + Clock + Abort + Sync>(
     rt: &R,
     alloc: Global,
     (words, status, line): Case<'_>,

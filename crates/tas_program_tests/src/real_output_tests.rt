@@ -10,6 +10,7 @@ use std::os::unix::fs::{PermissionsExt, symlink};
 use std::process::Abort;
 use std::sync::Wait;
 use std::thread::Threads;
+use std::time::Clock;
 use tas_program::{Folder, Streams, run_program};
 
 /// The folder of these files.
@@ -258,7 +259,7 @@ fn check_no_part<R: Files + Abort>(rt: &R, alloc: Global, words: &[&str]) {
 }
 
 /// Fails where the program ends in another way, writes to standard output, or leaves other files.
-fn check_case<R: Folder + Files + Alloc + Threads + Wait + Abort + Sync>(
+fn check_case<R: Folder + Files + Alloc + Threads + Wait + Clock + Abort + Sync>(
     rt: &R,
     alloc: Global,
     (words, input, status, line, movie): Case<'_>,

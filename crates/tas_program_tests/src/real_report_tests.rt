@@ -1,15 +1,16 @@
 //! `tas search --report` over files of the system: the file must be new, and has the lines that standard error has.
 
-use crate::checks::{check_same, expect_ok};
+use crate::checks::{check_same, check_that, expect_ok};
 use crate::movies::{IDLE, Recording, recording_of};
 use crate::programs::words_of;
-use crate::search_tests::COUNTING;
+use crate::search_tests::{COUNTING, timeless};
 use std::alloc::{Alloc, Global};
 use std::fs;
 use std::fs::Files;
 use std::process::Abort;
 use std::sync::Wait;
 use std::thread::Threads;
+use std::time::Clock;
 use tas_program::{Folder, Streams, run_program};
 
 /// The folder of these files.
@@ -27,9 +28,9 @@ const GONE: &str = "real_report/gone";
 
 const NOWHERE: &str = "real_report/nowhere/new";
 
-/// What the search below reports.
+/// What the search below reports, but for its rate.
 const REPORT: &[u8] =
-    b"layer 1: 1 frames, 3 states, 15 merged, 18 played\nbest of all 18 sequences\n";
+    b"layer 1: 1 frames, 3 states, 15 merged, 18 played, 1024 bytes\nbest of all 18 sequences\n";
 
 /// The words of a search without those of its report, the report's file, the status, and what standard error has.
 type Case<'a> = (&'a [&'a str], &'a str, u8, &'a [u8]);
@@ -66,11 +67,18 @@ fn make<R: Files + Abort>(rt: &R, name: &str, bytes: &[u8]) {
 /// Fails where a file has other bytes.
 fn check_file<R: Files + Alloc + Abort>(rt: &R, name: &str, bytes: &[u8]) {
     let found = expect_ok(rt, fs::read(rt, name));
-    check_same(rt, ("file", name), found.as_slice(), bytes);
+    check_that(rt, ("file", name), found.as_slice() == bytes);
+}
+
+/// Fails where a file has other lines than those of the search below.
+fn check_report<R: Files + Alloc + Abort>(rt: &R, alloc: Global, name: &str) {
+    let found = expect_ok(rt, fs::read(rt, name));
+    let found = timeless(rt, alloc, found.as_slice());
+    check_same(rt, ("report", name), found.as_slice(), REPORT);
 }
 
 /// Fails where the program ends in another way.
-fn check_case<R: Folder + Files + Alloc + Threads + Wait + Abort + Sync>(
+fn check_case<R: Folder + Files + Alloc + Threads + Wait + Clock + Abort + Sync>(
     rt: &R,
     alloc: Global,
     movie: &Recording,
@@ -88,7 +96,8 @@ fn check_case<R: Folder + Files + Alloc + Threads + Wait + Abort + Sync>(
     };
     let list = words_of(rt, alloc, all.as_slice()).into_iter();
     let end = run_program(rt, alloc, alloc, Ok(list), rt, &mut streams);
-    check_same(rt, ("line", report), errors.as_slice(), line);
+    let shown = timeless(rt, alloc, errors.as_slice());
+    check_same(rt, ("line", report), shown.as_slice(), line);
     check_same(rt, ("status", report), end.code(), status);
     check_same(rt, ("script", report), output.is_empty(), status != 0);
 }
@@ -107,7 +116,7 @@ fn reports_are_new_files(rt: HostRuntime) {
     }
     check_file(&rt, CART, game);
     check_file(&rt, BLANK, b"");
-    check_file(&rt, NEW, REPORT);
+    check_report(&rt, alloc, NEW);
     let is_left = fs::metadata(&rt, GONE).is_ok();
     check_same(&rt, "report without a line left", is_left, false);
     expect_ok(&rt, fs::remove_dir_all(&rt, PLACE));

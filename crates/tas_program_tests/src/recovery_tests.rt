@@ -9,6 +9,7 @@ use std::process::Abort;
 use std::sync::Wait;
 use std::sync::atomic::{AtomicUsize, Ordering};
 use std::thread::Threads;
+use std::time::Clock;
 use tas_program::{Streams, run_program};
 use test_streams::{Failure, Room, Taker};
 
@@ -253,7 +254,7 @@ static SAVED: [Saved<'static>; 6] = [
 static CLIENTS: [Client<'static>; 1] = [SILENT];
 
 /// Runs a recovery into a file of this folder: its status. What it says goes to this writer.
-fn run_into<R: Threads + Wait + Abort + Sync>(
+fn run_into<R: Threads + Wait + Clock + Abort + Sync>(
     rt: &R,
     alloc: Global,
     folder: &DeskFolder<'_>,

@@ -1,6 +1,6 @@
 //! `tas search`: the script on standard output, the verdict on standard error, and the fault of each input.
 
-use crate::checks::{check_same, expect_ok};
+use crate::checks::{check_same, check_that, expect_ok};
 use crate::movies::{IDLE, Program, Recording, recording_of};
 use crate::programs::{End, check_ran, words_of};
 use std::alloc::Global;
@@ -9,6 +9,7 @@ use std::io::{Error, ErrorKind, Write};
 use std::process::Abort;
 use std::sync::Wait;
 use std::thread::Threads;
+use std::time::Clock;
 use tas_program::{Folder, OrdinaryFile, Permit, Streams, run_program};
 use test_streams::{Failure, Giver, Room, Taker};
 
@@ -55,8 +56,58 @@ fn five_frames<R: Abort>(rt: &R, alloc: Global) -> Recording {
     recording_of(rt, alloc, COUNTING, 5, IDLE)
 }
 
-/// Runs the program with these words over this movie: its status. What it writes, and what it reports, goes to these writers.
-fn run_search<T: Threads + Wait + Abort + Sync, W: Write, E: Write>(
+/// The same folder, in which a new file can be made that takes so many bytes.
+#[derive(Clone, Copy)]
+struct Roomy<'a> {
+    place: Place<'a>,
+    alloc: Global,
+    room: usize,
+}
+
+impl<'a> Folder for Roomy<'a> {
+    type File = Giver<'a>;
+
+    type Sink = Taker;
+
+    fn look(&self, _name: &str) -> Option<OrdinaryFile> {
+        None
+    }
+
+    fn open(&self, name: &str) -> io::Result<Giver<'a>> {
+        self.place.open(name)
+    }
+
+    fn open_to_write(&self, _permit: Permit, _name: &str) -> io::Result<Taker> {
+        Err(Error::from(ErrorKind::NotFound))
+    }
+
+    fn create_new(&self, _permit: Permit, _name: &str) -> io::Result<Taker> {
+        let room = Room::Bytes(self.room);
+        Ok(Taker::new(self.alloc, 1000, room, Failure::Error))
+    }
+}
+
+/// Runs the program with these words over this folder and input: its status. What it writes, and what it reports, goes to these writers.
+fn run_in<T: Threads + Wait + Clock + Abort + Sync, F: Folder + Sync, W: Write, E: Write>(
+    rt: &T,
+    alloc: Global,
+    folder: &F,
+    input: &[u8],
+    words: &[&str],
+    output: &mut W,
+    errors: &mut E,
+) -> u8 {
+    let words = words_of(rt, alloc, words).into_iter();
+    let mut streams = Streams {
+        input,
+        output,
+        errors,
+    };
+    run_program(rt, alloc, alloc, Ok(words), folder, &mut streams).code()
+}
+
+/// The same over this movie.
+fn run_search<T: Threads + Wait + Clock + Abort + Sync, W: Write, E: Write>(
     rt: &T,
     alloc: Global,
     movie: &Recording,
@@ -64,19 +115,26 @@ fn run_search<T: Threads + Wait + Abort + Sync, W: Write, E: Write>(
     output: &mut W,
     errors: &mut E,
 ) -> u8 {
-    let words = words_of(rt, alloc, words).into_iter();
     let (game, input) = movie.files();
-    let mut streams = Streams {
-        input,
-        output,
-        errors,
-    };
-    let folder = Place { game };
-    run_program(rt, alloc, alloc, Ok(words), &folder, &mut streams).code()
+    run_in(rt, alloc, &Place { game }, input, words, output, errors)
 }
 
-/// Fails where the program over this movie ends in another way.
-fn check_end<R: Threads + Wait + Abort + Sync>(
+/// A report without its rates, which no two runs have in common.
+pub fn timeless<R: Abort>(rt: &R, alloc: Global, report: &[u8]) -> Vec<u8> {
+    let mut kept = Vec::new(alloc);
+    for line in expect_ok(rt, str::from_utf8(report)).split_inclusive('\n') {
+        let (front, end) = match line.strip_suffix(" frames a second\n") {
+            Some(counts) => (counts.rsplit_once(", ").unwrap_or((line, "")).0, "\n"),
+            None => (line, ""),
+        };
+        expect_ok(rt, kept.extend_from_slice(front.as_bytes()));
+        expect_ok(rt, kept.extend_from_slice(end.as_bytes()));
+    }
+    kept
+}
+
+/// Fails where the program over this movie ends in another way; its rates may be any.
+fn check_end<R: Threads + Wait + Clock + Abort + Sync>(
     rt: &R,
     alloc: Global,
     movie: &Recording,
@@ -85,8 +143,8 @@ fn check_end<R: Threads + Wait + Abort + Sync>(
 ) {
     let (mut output, mut errors) = (Vec::new(alloc), Vec::new(alloc));
     let code = run_search(rt, alloc, movie, words, &mut output, &mut errors);
-    let found = (code, output.as_slice(), errors.as_slice());
-    check_ran(rt, words, found, end);
+    let shown = timeless(rt, alloc, errors.as_slice());
+    check_ran(rt, words, (code, output.as_slice(), shown.as_slice()), end);
 }
 
 /// The words of a search, its script and its verdict, by hand.
@@ -104,8 +162,8 @@ static SEARCHES: [(&[&str], &[u8], &[u8]); 9] = [
             "names",
         ],
         b"replace 3 1 R.... ..... .....\nreplace 4 1 R.... ..... .....\n",
-        b"layer 1: 1 frames, 3 states, 0 merged, 3 played\n\
-layer 2: 2 frames, 5 states, 4 merged, 9 played\n\
+        b"layer 1: 1 frames, 3 states, 0 merged, 3 played, 1024 bytes\n\
+layer 2: 2 frames, 5 states, 4 merged, 9 played, 2064 bytes\n\
 best of all 81 sequences\n",
     ),
     (
@@ -123,8 +181,8 @@ best of all 81 sequences\n",
             "2",
         ],
         b"insert 5 2 ..... ..... .....\nreplace 3 2 R.... ..... .....\nreplace 5 2 R.... ..... .....\n",
-        b"layer 1: 2 frames, 3 states, 0 merged, 6 played\n\
-layer 2: 4 frames, 5 states, 4 merged, 18 played\n\
+        b"layer 1: 2 frames, 3 states, 0 merged, 6 played, 1024 bytes\n\
+layer 2: 4 frames, 5 states, 4 merged, 18 played, 2064 bytes\n\
 best of all 9 sequences\n",
     ),
     (
@@ -138,13 +196,13 @@ best of all 9 sequences\n",
             "choices",
         ],
         b"replace 3 1 R.... ..... .....\n",
-        b"layer 1: 1 frames, 3 states, 0 merged, 3 played\n\
+        b"layer 1: 1 frames, 3 states, 0 merged, 3 played, 1024 bytes\n\
 best of all 3 sequences\n",
     ),
     (
         &["search", "game.bin", "3", "1", "reach byte:80 == 1"],
         b"replace 3 1 R.... ..... .....\n",
-        b"layer 1: 1 frames, 3 states, 15 merged, 18 played\n\
+        b"layer 1: 1 frames, 3 states, 15 merged, 18 played, 1024 bytes\n\
 best of all 18 sequences\n",
     ),
     (
@@ -158,7 +216,7 @@ best of all 18 sequences\n",
             "names",
         ],
         b"replace 3 1 R.... ..... .....\n",
-        b"layer 1: 1 frames, 3 states, 15 merged, 18 played\n\
+        b"layer 1: 1 frames, 3 states, 15 merged, 18 played, 1024 bytes\n\
 best of all 18 sequences\n",
     ),
     (
@@ -177,10 +235,10 @@ best of all 18 sequences\n",
             "choices",
         ],
         b"",
-        b"layer 1: 1 frames, 3 states, 0 merged, 3 played\n\
-layer 2: 2 frames, 5 states, 4 merged, 9 played\n\
-layer 3: 3 frames, 7 states, 8 merged, 15 played\n\
-layer 4: 4 frames, 9 states, 12 merged, 21 played\n\
+        b"layer 1: 1 frames, 3 states, 0 merged, 3 played, 1024 bytes\n\
+layer 2: 2 frames, 5 states, 4 merged, 9 played, 2064 bytes\n\
+layer 3: 3 frames, 7 states, 8 merged, 15 played, 3136 bytes\n\
+layer 4: 4 frames, 9 states, 12 merged, 21 played, 4240 bytes\n\
 none: not one of all 81 sequences reaches it\n",
     ),
     (
@@ -211,7 +269,7 @@ none: not one of all 81 sequences reaches it\n",
             "4",
         ],
         b"",
-        b"layer 1: 1 frames, 3 states, 0 merged, 3 played\n\
+        b"layer 1: 1 frames, 3 states, 0 merged, 3 played, 1024 bytes\n\
 stopped: more than 4 states in layer 2\n",
     ),
 ];
@@ -221,6 +279,203 @@ fn scripts_and_verdicts(rt: HostRuntime) {
     let alloc = rt.alloc();
     let movie = five_frames(&rt, alloc);
     for (words, script, verdict) in SEARCHES.iter() {
+        check_end(&rt, alloc, &movie, words, (0, script, verdict));
+    }
+}
+
+/// The same of parts of the space: with three parts each has one of the three choices to begin with, with four the first has none.
+static PARTS: [(&[&str], &[u8], &[u8]); 11] = [
+    (
+        &[
+            "search",
+            "game.bin",
+            "3",
+            "4",
+            "reach byte:80 == 2",
+            "--choices",
+            "choices",
+            "--first",
+            "2/3",
+        ],
+        b"replace 3 1 R.... ..... .....\nreplace 4 1 R.... ..... .....\n",
+        b"layer 1: 1 frames, 1 states, 0 merged, 1 played, 512 bytes\n\
+layer 2: 2 frames, 3 states, 0 merged, 3 played, 1040 bytes\n\
+part 2 of 3: best of all 27 sequences\n",
+    ),
+    (
+        &[
+            "search",
+            "game.bin",
+            "3",
+            "4",
+            "reach byte:80 == 2",
+            "--choices",
+            "choices",
+            "--first",
+            "3/3",
+        ],
+        b"insert 5 2 ..... ..... .....\nreplace 3 1 .L... ..... .....\nreplace 4 1 R.... ..... .....\nreplace 5 1 R.... ..... .....\nreplace 6 1 R.... ..... .....\n",
+        b"layer 1: 1 frames, 1 states, 0 merged, 1 played, 512 bytes\n\
+layer 2: 2 frames, 3 states, 0 merged, 3 played, 1040 bytes\n\
+layer 3: 3 frames, 5 states, 4 merged, 9 played, 2080 bytes\n\
+layer 4: 4 frames, 7 states, 8 merged, 15 played, 3152 bytes\n\
+part 3 of 3: best of all 27 sequences\n",
+    ),
+    (
+        &[
+            "search",
+            "game.bin",
+            "3",
+            "2",
+            "reach byte:80 == 2",
+            "--choices",
+            "choices",
+            "--first",
+            "1/3",
+        ],
+        b"",
+        b"layer 1: 1 frames, 1 states, 0 merged, 1 played, 512 bytes\n\
+layer 2: 2 frames, 3 states, 0 merged, 3 played, 1040 bytes\n\
+part 1 of 3: none: not one of all 3 sequences reaches it\n",
+    ),
+    (
+        &[
+            "search",
+            "game.bin",
+            "3",
+            "2",
+            "most byte:80",
+            "--choices",
+            "choices",
+            "--first",
+            "2/2",
+        ],
+        b"replace 3 1 .L... ..... .....\nreplace 4 1 ..... ..... .....\n",
+        b"layer 1: 1 frames, 2 states, 0 merged, 2 played, 768 bytes\n\
+layer 2: 2 frames, 5 states, 1 merged, 6 played, 1808 bytes\n\
+part 2 of 2: best of all 6 sequences\n",
+    ),
+    (
+        &[
+            "search",
+            "game.bin",
+            "3",
+            "4",
+            "reach byte:80 == 2",
+            "--choices",
+            "choices",
+            "--first",
+            "1/4",
+        ],
+        b"",
+        b"layer 1: 1 frames, 0 states, 0 merged, 0 played, 256 bytes\n\
+part 1 of 4: none: not one of all 0 sequences reaches it\n",
+    ),
+    (
+        &[
+            "search",
+            "game.bin",
+            "3",
+            "1",
+            "least byte:80",
+            "--choices",
+            "choices",
+            "--first",
+            "1/1000000",
+        ],
+        b"",
+        b"layer 1: 1 frames, 0 states, 0 merged, 0 played, 256 bytes\n\
+part 1 of 1000000: none: each of all 0 sequences halts before its end\n",
+    ),
+    (
+        &[
+            "search",
+            "game.bin",
+            "3",
+            "1",
+            "reach byte:80 == 0",
+            "--choices",
+            "choices",
+            "--first",
+            "1/4",
+        ],
+        b"",
+        b"part 1 of 4: best of all 0 sequences\n",
+    ),
+    (
+        &[
+            "search",
+            "game.bin",
+            "3",
+            "0",
+            "least byte:80",
+            "--choices",
+            "choices",
+            "--first",
+            "4/4",
+        ],
+        b"",
+        b"part 4 of 4: best of all 1 sequences\n",
+    ),
+    (
+        &[
+            "search",
+            "game.bin",
+            "3",
+            "4",
+            "reach byte:80 == 9",
+            "--choices",
+            "choices",
+            "--first",
+            "2/3",
+            "--most",
+            "2",
+        ],
+        b"",
+        b"layer 1: 1 frames, 1 states, 0 merged, 1 played, 512 bytes\n\
+part 2 of 3: stopped: more than 2 states in layer 2: none of up to 1 frames reaches it\n",
+    ),
+    (
+        &[
+            "search",
+            "game.bin",
+            "3",
+            "2",
+            "least byte:80",
+            "--choices",
+            "choices",
+            "--first",
+            "3/3",
+            "--most",
+            "2",
+        ],
+        b"",
+        b"layer 1: 1 frames, 1 states, 0 merged, 1 played, 512 bytes\n\
+part 3 of 3: stopped: more than 2 states in layer 2\n",
+    ),
+    (
+        &[
+            "search",
+            "game.bin",
+            "3",
+            "1",
+            "reach byte:80 == 1",
+            "--choices",
+            "choices",
+            "--first",
+            "1/1",
+        ],
+        b"replace 3 1 R.... ..... .....\n",
+        b"layer 1: 1 frames, 3 states, 0 merged, 3 played, 1024 bytes\n\
+best of all 3 sequences\n",
+    ),
+];
+
+#[test]
+fn parts_are_searched_alone(rt: HostRuntime) {
+    let alloc = rt.alloc();
+    let movie = five_frames(&rt, alloc);
+    for (words, script, verdict) in PARTS.iter() {
         check_end(&rt, alloc, &movie, words, (0, script, verdict));
     }
 }
@@ -348,8 +603,9 @@ fn script_that_cannot_be_written_is_a_fault(rt: HostRuntime) {
         &mut errors,
     );
     let lines =
-        b"layer 1: 1 frames, 3 states, 15 merged, 18 played\nfault: write failed after 10 bytes\n".as_slice();
-    check_same(&rt, "end", (code, errors.as_slice()), (1, lines));
+        b"layer 1: 1 frames, 3 states, 15 merged, 18 played, 1024 bytes\nfault: write failed after 10 bytes\n".as_slice();
+    let shown = timeless(&rt, alloc, errors.as_slice());
+    check_same(&rt, "end", (code, shown.as_slice()), (1, lines));
     let first = b"replace 3 ".as_slice();
     check_same(&rt, "script", room.as_slice(), first);
 }
@@ -360,7 +616,8 @@ fn verdict_that_cannot_be_written_is_a_fault(rt: HostRuntime) {
     let alloc = rt.alloc();
     let movie = five_frames(&rt, alloc);
     let mut output = Vec::new(alloc);
-    let mut errors = Taker::new(alloc, 1000, Room::Bytes(61), Failure::Error);
+    // The line has 80 bytes and the digits of its rate, so some of the verdict fit, and not all.
+    let mut errors = Taker::new(alloc, 1000, Room::Bytes(95), Failure::Error);
     let code = run_search(
         &rt,
         alloc,
@@ -371,8 +628,15 @@ fn verdict_that_cannot_be_written_is_a_fault(rt: HostRuntime) {
     );
     let script = b"replace 3 1 R.... ..... .....\n".as_slice();
     check_same(&rt, "end", (code, output.as_slice()), (1, script));
-    let first = b"layer 1: 1 frames, 3 states, 15 merged, 18 played\nbest of all".as_slice();
-    check_same(&rt, "verdict", errors.taken.as_slice(), first);
+    let shown = timeless(&rt, alloc, errors.taken.as_slice());
+    let whole =
+        b"layer 1: 1 frames, 3 states, 15 merged, 18 played, 1024 bytes\nbest of all 18 sequences\n".as_slice();
+    check_that(&rt, "verdict", whole.starts_with(shown.as_slice()));
+    check_that(
+        &rt,
+        "some of it",
+        shown.len() > 62 && shown.len() < whole.len(),
+    );
 }
 
 /// So does each line of the report, which a search has to show as it goes.
@@ -416,4 +680,48 @@ fn report_that_cannot_be_made_is_a_fault(rt: HostRuntime) {
     let words = ["search", "none.bin", "3", "1", "reach 1", "--report", "new"];
     let line = b"fault: report: not created\n".as_slice();
     check_end(&rt, alloc, &movie, &words, (1, b"", line));
+}
+
+/// A search in a folder whose new files take so many bytes, with its report in one: its status, its script and what standard error has, but
+/// for rates.
+fn reported<T: Threads + Wait + Clock + Abort + Sync>(
+    rt: &T,
+    alloc: Global,
+    movie: &Recording,
+    room: usize,
+) -> (u8, Vec<u8>, Vec<u8>) {
+    let mut words = expect_ok(rt, Vec::from_slice(alloc, FIRST.as_slice()));
+    for word in ["--report", "new", "--workers", "2"] {
+        expect_ok(rt, words.push(word));
+    }
+    let (game, input) = movie.files();
+    let place = Place { game };
+    let folder = Roomy { place, alloc, room };
+    let (mut output, mut errors) = (Vec::new(alloc), Vec::new(alloc));
+    let code = run_in(rt, alloc, &folder, input, &words, &mut output, &mut errors);
+    (code, output, timeless(rt, alloc, errors.as_slice()))
+}
+
+/// A line goes to the report's file first: where it takes only a part, standard error has none of it.
+#[test]
+fn report_that_cannot_be_written_is_a_fault(rt: HostRuntime) {
+    let alloc = rt.alloc();
+    let movie = five_frames(&rt, alloc);
+    for room in [0usize, 8, 60] {
+        let (code, output, errors) = reported(&rt, alloc, &movie, room);
+        let line = b"fault: report: write failed\n".as_slice();
+        check_same(&rt, room, (code, errors.as_slice()), (1, line));
+        check_same(&rt, room, output.len(), 0);
+    }
+    let script = b"replace 3 1 R.... ..... .....\n".as_slice();
+    let line =
+        b"layer 1: 1 frames, 3 states, 15 merged, 18 played, 1024 bytes\nfault: report: write failed after ".as_slice();
+    let (code, output, errors) = reported(&rt, alloc, &movie, 95);
+    check_same(&rt, "verdict", (code, output.as_slice()), (1, script));
+    check_that(&rt, "verdict", errors.as_slice().starts_with(line));
+    let (code, output, errors) = reported(&rt, alloc, &movie, 1000);
+    let line =
+        b"layer 1: 1 frames, 3 states, 15 merged, 18 played, 1024 bytes\nbest of all 18 sequences\n".as_slice();
+    check_same(&rt, "room", (code, output.as_slice()), (0, script));
+    check_same(&rt, "room", errors.as_slice(), line);
 }

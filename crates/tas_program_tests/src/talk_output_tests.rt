@@ -9,6 +9,7 @@ use std::process::Abort;
 use std::sync::Wait;
 use std::sync::atomic::AtomicUsize;
 use std::thread::Threads;
+use std::time::Clock;
 use tas_program::{Streams, run_program};
 use test_streams::{Failure, Giver, Room, Taker};
 
@@ -156,7 +157,7 @@ static CASES: [Case<'static>; 12] = [
 ];
 
 /// Fails where a conversation ends in another way, or has other answers, or the file gets other bytes.
-fn check_case<R: Threads + Wait + Abort + Sync>(
+fn check_case<R: Threads + Wait + Clock + Abort + Sync>(
     rt: &R,
     alloc: Global,
     (number, game, tapes): (usize, &[u8], &[Tape]),

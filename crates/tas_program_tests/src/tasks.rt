@@ -4,29 +4,37 @@ use crate::checks::{check_same, expect_some};
 use crate::programs::words_of;
 use std::alloc::Global;
 use std::process::Abort;
-use tas_program::{Order, Pair, Start, Task, read_words};
+use tas_program::{Order, Pair, Start, TalkWords, Task, read_words};
 
 /// The names of a pair's two files.
 pub type Names<'a> = (&'a str, &'a str);
 
+/// A task's numbers; those of a search are the most.
+type Numbers = [Option<usize>; 6];
+
 /// A task's command, the names of its files and its numbers, each in the order of its words, a desk's pairs, and the file that its output
-/// replaces. The goal of a search is among its files. Different tasks have different parts.
+/// replaces. The goal of a search is among its files, and a conversation with a journal has the number 1. Different tasks have different parts.
 type Parts<'a> = (
     &'a str,
     [Option<&'a str>; 4],
-    [Option<usize>; 4],
+    Numbers,
     [Option<Names<'a>>; 8],
     Option<&'a str>,
 );
 
+/// Up to three numbers.
+fn three(first: Option<usize>, second: Option<usize>, third: Option<usize>) -> Numbers {
+    [first, second, third, None, None, None]
+}
+
 /// One number.
-fn one(number: usize) -> [Option<usize>; 4] {
-    [Some(number), None, None, None]
+fn one(number: usize) -> Numbers {
+    three(Some(number), None, None)
 }
 
 /// Two numbers.
-fn two(first: usize, second: usize) -> [Option<usize>; 4] {
-    [Some(first), Some(second), None, None]
+fn two(first: usize, second: usize) -> Numbers {
+    three(Some(first), Some(second), None)
 }
 
 /// The names of a movie's files.
@@ -59,18 +67,31 @@ fn pairs<'a>(task: Task<'a>) -> [Option<Names<'a>>; 8] {
     }
 }
 
+/// A conversation's files, the last of them its journal, and the number 1 where it has one.
+fn talk<'a>(words: TalkWords<'a>) -> ([Option<&'a str>; 4], Numbers) {
+    let files = match words.start {
+        Start::Blank => [words.journal, None, None, None],
+        Start::Cart { cart } => [Some(cart), words.journal, None, None],
+        Start::Movie(files) => [Some(files.cart), Some(files.movie), words.journal, None],
+    };
+    match words.journal {
+        Some(_) => (files, one(1)),
+        None => (files, [None; 6]),
+    }
+}
+
 /// The parts of a task and its output.
 fn parts<'a>(order: Order<'a>) -> Parts<'a> {
     let task = order.task;
     let (command, files, numbers) = match task {
         Task::Trace { instructions } => ("trace", [None; 4], one(instructions as usize)),
-        Task::Check { cart } => ("check", [Some(cart), None, None, None], [None; 4]),
-        Task::Migrate { cart } => ("migrate", [Some(cart), None, None, None], [None; 4]),
+        Task::Check { cart } => ("check", [Some(cart), None, None, None], [None; 6]),
+        Task::Migrate { cart } => ("migrate", [Some(cart), None, None, None], [None; 6]),
         Task::New { cart, frames } => ("new", [Some(cart), None, None, None], one(frames)),
         Task::Recover(words) => {
             let until = words.until.map(|line| line as usize);
             let files = [Some(words.cart), None, None, None];
-            ("recover", files, [until, None, None, None])
+            ("recover", files, three(until, None, None))
         }
         Task::Search(words) => (
             "search",
@@ -84,14 +105,21 @@ fn parts<'a>(order: Order<'a>) -> Parts<'a> {
                 Some(words.from),
                 Some(words.frames),
                 Some(words.hold),
+                Some(words.part.number),
+                Some(words.part.of),
                 Some(words.states),
             ],
+        ),
+        Task::Verify(words) => (
+            "verify",
+            [words.carts, None, None, None],
+            one(words.workers),
         ),
         Task::Shot { cart, frame } => ("shot", [Some(cart), None, None, None], one(frame)),
         Task::Film { cart, from, to } => (
             "film",
             [Some(cart), None, None, None],
-            [from, to, None, None],
+            three(from, to, None),
         ),
         Task::Export {
             cart,
@@ -99,29 +127,30 @@ fn parts<'a>(order: Order<'a>) -> Parts<'a> {
             to,
             workers,
         } => {
-            let numbers = [Some(from), Some(to), Some(workers), None];
+            let numbers = three(Some(from), Some(to), Some(workers));
             ("export", [Some(cart), None, None, None], numbers)
         }
         Task::Ram { cart, from, to } => ("ram", [Some(cart), None, None, None], two(from, to)),
         Task::Digest { cart, every } => ("digest", [Some(cart), None, None, None], one(every)),
-        Task::Compare { cart, old } => ("compare", [Some(cart), Some(old), None, None], [None; 4]),
-        Task::Lag { cart } => ("lag", [Some(cart), None, None, None], [None; 4]),
+        Task::Compare { cart, old } => ("compare", [Some(cart), Some(old), None, None], [None; 6]),
+        Task::Lag { cart } => ("lag", [Some(cart), None, None, None], [None; 6]),
         Task::Edit {
             cart,
             script,
             other,
-        } => ("edit", [Some(cart), Some(script), other, None], [None; 4]),
+        } => ("edit", [Some(cart), Some(script), other, None], [None; 6]),
         Task::Cut { cart, from, to } => ("cut", [Some(cart), None, None, None], two(from, to)),
-        Task::Diff { cart, old } => ("diff", [Some(cart), Some(old), None, None], [None; 4]),
-        Task::Script(None) => ("script", [None; 4], [None; 4]),
-        Task::Script(Some(files)) => ("script", movie(files.cart, files.movie), [None; 4]),
-        Task::Talk(Start::Blank) => ("talk", [None; 4], [None; 4]),
-        Task::Talk(Start::Cart { cart }) => ("talk", [Some(cart), None, None, None], [None; 4]),
-        Task::Talk(Start::Movie(files)) => ("talk", movie(files.cart, files.movie), [None; 4]),
+        Task::Diff { cart, old } => ("diff", [Some(cart), Some(old), None, None], [None; 6]),
+        Task::Script(None) => ("script", [None; 4], [None; 6]),
+        Task::Script(Some(files)) => ("script", movie(files.cart, files.movie), [None; 6]),
+        Task::Talk(words) => {
+            let (files, numbers) = talk(words);
+            ("talk", files, numbers)
+        }
         Task::Desk { cart, movie, .. } => (
             "desk",
             [Some(cart), Some(movie), None, None],
-            [None; 4],
+            [None; 6],
         ),
     };
     (command, files, numbers, pairs(task), order.output)

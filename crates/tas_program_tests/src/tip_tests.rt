@@ -6,12 +6,13 @@ use std::alloc::Global;
 use std::process::Abort;
 use std::sync::Wait;
 use std::thread::Threads;
+use std::time::Clock;
 
 /// Refused words and the whole text that says why.
 type Refused<'a> = (&'a [&'a str], &'a [u8]);
 
 /// Words of which one is in a number's place, or one too many: each text has a tip, with the right line.
-static TIPS: [Refused<'static>; 12] = [
+static TIPS: [Refused<'static>; 13] = [
     (
         &["shot", "game.bin", "game.movie"],
         b"error: invalid value 'game.movie' for '<K>': invalid digit found in string\n\n  tip: the movie is read from standard input: tas shot game.bin 60 < game.movie > frame60.ppm\n\nFor more information, try '--help'.\n",
@@ -31,6 +32,10 @@ static TIPS: [Refused<'static>; 12] = [
     (
         &["search", "game.bin", "game.movie", "60", "reach 1"],
         b"error: invalid value 'game.movie' for '<FROM>': invalid digit found in string\n\n  tip: the movie is read from standard input: tas search game.bin 60 12 'reach byte:80 == 85' < game.movie\n\nFor more information, try '--help'.\n",
+    ),
+    (
+        &["verify", "game.digest"],
+        b"error: unexpected argument 'game.digest' found\n\n  tip: the manifest is read from standard input: tas verify --carts roms < movies.manifest\n\nUsage: tas verify [OPTIONS] < MANIFEST\n\nFor more information, try '--help'.\n",
     ),
     (
         &["trace", "game.bin"],
@@ -63,7 +68,7 @@ static TIPS: [Refused<'static>; 12] = [
 ];
 
 /// Words that are refused for other reasons: these texts have no tip of the program's own.
-static NO_TIPS: [Refused<'static>; 8] = [
+static NO_TIPS: [Refused<'static>; 10] = [
     (
         &["shot", "game.bin"],
         b"error: the following required arguments were not provided:\n  <K>\n\nUsage: tas shot <CART> <K> < MOVIE\n\nFor more information, try '--help'.\n",
@@ -89,6 +94,14 @@ static NO_TIPS: [Refused<'static>; 8] = [
         b"error: invalid value 'x' for '--hold <N>': invalid digit found in string\n\nFor more information, try '--help'.\n",
     ),
     (
+        &["search", "game.bin", "0", "1", "reach 1", "--first", "3/2"],
+        b"error: invalid value '3/2' for '--first <K/N>': numbers with 1 <= K <= N <= 1000000 are wanted\n\nUsage: tas search [OPTIONS] <CART> <FROM> <FRAMES> <GOAL> < MOVIE\n\nFor more information, try '--help'.\n",
+    ),
+    (
+        &["search", "game.bin", "0", "1", "reach 1", "--first", "-1/2"],
+        b"error: unexpected argument '-1' found\n\n  tip: to pass '-1' as a value, use '-- -1'\n\nUsage: tas search [OPTIONS] <CART> <FROM> <FRAMES> <GOAL> < MOVIE\n\nFor more information, try '--help'.\n",
+    ),
+    (
         &["desk", "game.bin", "game.movie", "in0"],
         b"error: the following required arguments were not provided:\n  <OUT0>\n\nUsage: tas desk <CART> <MOVIE> <IN0> <OUT0> [IN1 OUT1] .. [IN7 OUT7]\n\nFor more information, try '--help'.\n",
     ),
@@ -98,7 +111,11 @@ static NO_TIPS: [Refused<'static>; 8] = [
     ),
 ];
 
-fn check_refused<R: Threads + Wait + Abort + Sync>(rt: &R, alloc: Global, rows: &[Refused<'_>]) {
+fn check_refused<R: Threads + Wait + Clock + Abort + Sync>(
+    rt: &R,
+    alloc: Global,
+    rows: &[Refused<'_>],
+) {
     for (words, text) in rows.iter() {
         let end = (2, b"".as_slice(), *text);
         check_run(rt, alloc, words, only_game(b""), ONE_FRAME, end);
@@ -116,9 +133,9 @@ fn other_words_get_no_tip(rt: HostRuntime) {
 }
 
 /// The commands, and no command.
-static COMMANDS: [&str; 19] = [
-    "trace", "check", "migrate", "new", "recover", "search", "shot", "film", "export", "ram",
-    "digest", "compare", "lag", "edit", "cut", "diff", "script", "talk", "desk",
+static COMMANDS: [&str; 20] = [
+    "trace", "check", "migrate", "new", "recover", "search", "verify", "shot", "film", "export",
+    "ram", "digest", "compare", "lag", "edit", "cut", "diff", "script", "talk", "desk",
 ];
 
 /// Fails where a line of a text has more than 100 bytes.
@@ -135,7 +152,7 @@ fn check_width<R: Abort>(rt: &R, words: &[&str], text: &[u8]) {
 }
 
 /// Fails where a line of the help of these words has more than 100 bytes.
-fn check_help<R: Threads + Wait + Abort + Sync>(rt: &R, alloc: Global, words: &[&str]) {
+fn check_help<R: Threads + Wait + Clock + Abort + Sync>(rt: &R, alloc: Global, words: &[&str]) {
     let mut written = Vec::new(alloc);
     let mut told = Vec::new(alloc);
     let folder = only_game(b"");

@@ -13,6 +13,7 @@ use std::io::{Error, ErrorKind};
 use std::process::Abort;
 use std::sync::Wait;
 use std::thread::Threads;
+use std::time::Clock;
 use tas_program::{Folder, OrdinaryFile, Permit, Streams, run_program};
 use test_streams::{Failure, Room, Taker};
 
@@ -64,7 +65,7 @@ impl<'a> Folder for Place<'a> {
 type Case<'a> = (&'a [&'a str], &'a str);
 
 /// A word at fault is reported without it.
-static CASES: [Case<'static>; 25] = [
+static CASES: [Case<'static>; 26] = [
     (
         &["trace", "3"],
         "waiting: the cartridge is read from standard input: tas trace 3 < game.bin\n",
@@ -84,6 +85,10 @@ static CASES: [Case<'static>; 25] = [
     (
         &["search", "game.bin", "0", "1", "reach 1"],
         "waiting: the movie is read from standard input: tas search game.bin 60 12 'reach byte:80 == 85' < game.movie\n",
+    ),
+    (
+        &["verify"],
+        "waiting: the manifest is read from standard input: tas verify --carts roms < movies.manifest\n",
     ),
     (
         &["shot", "game.bin", "0"],
@@ -147,7 +152,7 @@ static CASES: [Case<'static>; 25] = [
 ];
 
 /// Runs the program with these words in this place: its status. What it writes, and what it reports, goes to these writers.
-fn run_at<T: Threads + Wait + Abort + Sync>(
+fn run_at<T: Threads + Wait + Clock + Abort + Sync>(
     rt: &T,
     alloc: Global,
     place: Place<'_>,
@@ -171,7 +176,7 @@ fn taker(alloc: Global, room: usize) -> Taker {
 
 /// Fails where the program at a terminal ends in another way than elsewhere, or writes other bytes, or says something else than this line
 /// and what it says elsewhere.
-fn check_case<R: Threads + Wait + Abort + Sync>(
+fn check_case<R: Threads + Wait + Clock + Abort + Sync>(
     rt: &R,
     alloc: Global,
     game: &[u8],

@@ -1,6 +1,6 @@
 //! Words that name a task, and others.
 
-use crate::checks::{check_same, check_that};
+use crate::checks::{check_same, check_that, expect_ok};
 use crate::movies::{PLAYFIELD, image_of};
 use crate::programs::{ONE_FRAME, check_run, check_unread, only_game, run};
 use crate::tasks::check_task;
@@ -9,9 +9,10 @@ use std::io::ErrorKind;
 use std::process::Abort;
 use std::sync::Wait;
 use std::thread::Threads;
+use std::time::Clock;
 
 /// Words that name a task, the first of them its command, and the task's files and numbers.
-static TASKS: [(&[&str], &[&str], &[usize]); 41] = [
+static TASKS: [(&[&str], &[&str], &[usize]); 45] = [
     (&["trace", "0"], &[], &[0]),
     (&["trace", "3"], &[], &[3]),
     (&["trace", "1000000"], &[], &[1_000_000]),
@@ -29,7 +30,7 @@ static TASKS: [(&[&str], &[&str], &[usize]); 41] = [
     (
         &["search", "a.bin", "0", "0", "reach x"],
         &["a.bin", "reach x"],
-        &[0, 0, 1, 100_000],
+        &[0, 0, 1, 1, 1, 100_000],
     ),
     (
         &[
@@ -44,17 +45,20 @@ static TASKS: [(&[&str], &[&str], &[usize]); 41] = [
             "d",
             "--hold",
             "262144",
+            "--first",
+            "1000000/1000000",
             "--most",
             "9999999",
         ],
         &["a.bin", "b", "c", "d"],
-        &[9_999_999, 262_144, 262_144, 9_999_999],
+        &[9_999_999, 262_144, 262_144, 1_000_000, 1_000_000, 9_999_999],
     ),
     (
         &[
             "search",
             "--most=1",
             "--hold=1",
+            "--first=2/13",
             "7",
             "--choices=c",
             "8",
@@ -62,8 +66,16 @@ static TASKS: [(&[&str], &[&str], &[usize]); 41] = [
             "b",
         ],
         &["7", "b", "c"],
-        &[8, 9, 1, 1],
+        &[8, 9, 1, 2, 13, 1],
     ),
+    (
+        &["search", "a.bin", "0", "1", "b", "--first", "1/1"],
+        &["a.bin", "b"],
+        &[0, 1, 1, 1, 1, 100_000],
+    ),
+    (&["verify"], &[], &[1]),
+    (&["verify", "--carts", "a"], &["a"], &[1]),
+    (&["verify", "--workers=16", "--carts=7"], &["7"], &[16]),
     (&["shot", "a.bin", "0"], &["a.bin"], &[0]),
     (&["shot", "7", "1000001"], &["7"], &[1_000_001]),
     (&["shot", "b", "9999999"], &["b"], &[9_999_999]),
@@ -139,7 +151,7 @@ fn each_command_is_its_task(rt: HostRuntime) {
 
 /// Words that are no task: none, an unknown one, too few, too many, numbers past their ranges and
 /// texts that are no numbers, unknown flags.
-static MISUSES: [&[&str]; 106] = [
+static MISUSES: [&[&str]; 36] = [
     &[],
     &[""],
     &["play"],
@@ -170,6 +182,16 @@ static MISUSES: [&[&str]; 106] = [
     &["recover", "game.bin", "--until", "4294967296"],
     &["recover", "game.bin", "--until", "x"],
     &["recover", "--until", "7", "--until", "8", "game.bin"],
+    &["verify", "game.bin"],
+    &["verify", "--carts"],
+    &["verify", "--workers", "0"],
+    &["verify", "--workers", "17"],
+    &["verify", "--carts", "a", "--carts", "a"],
+    &["verify", "-o", "other"],
+];
+
+/// Words of a search that are no task.
+static SEARCH_MISUSES: [&[&str]; 18] = [
     &["search"],
     &["search", "game.bin", "0", "1"],
     &["search", "game.bin", "0", "1", "reach 1", "other"],
@@ -192,6 +214,14 @@ static MISUSES: [&[&str]; 106] = [
     &["search", "game.bin", "0", "1", "reach 1", "--workers", "0"],
     &["search", "game.bin", "0", "1", "reach 1", "--workers", "17"],
     &["search", "game.bin", "0", "1", "reach 1", "--report"],
+    &["search", "game.bin", "0", "1", "reach 1", "--first"],
+    &[
+        "search", "game.bin", "0", "1", "reach 1", "--first", "1/2", "--first", "1/2",
+    ],
+];
+
+/// Words that look at one frame or change a movie, and are no task.
+static EDIT_MISUSES: [&[&str]; 27] = [
     &["shot", "game.bin"],
     &["shot", "game.bin", "10000000"],
     &["shot", "game.bin", "-1"],
@@ -221,6 +251,10 @@ static MISUSES: [&[&str]; 106] = [
     &["talk", "game.bin", "other", "other"],
     &["talk", "--cart", "game.bin"],
     &["Trace", "1"],
+];
+
+/// Words that look at many frames, and are no task.
+static LOOK_MISUSES: [&[&str]; 33] = [
     &["export", "game.bin"],
     &["export", "game.bin", "0", "1"],
     &["export", "game.bin", "0", "1", "1", "1"],
@@ -263,7 +297,7 @@ fn begins(text: &[u8], start: &[u8]) -> bool {
 
 /// Fails where the program, run with these words over this cartridge and input, ends with another status, or what it writes or
 /// what it tells begins in another way.
-fn check_begins<R: Threads + Wait + Abort + Sync>(
+fn check_begins<R: Threads + Wait + Clock + Abort + Sync>(
     rt: &R,
     alloc: Global,
     words: &[&str],
@@ -284,7 +318,7 @@ pub type Shown<'a> = (&'a [&'a str], &'a [u8]);
 
 /// Fails where words over this input end with another status, or don't show their text: where they are understood (0) on standard
 /// output, else as an error.
-pub fn check_shown<R: Threads + Wait + Abort + Sync>(
+pub fn check_shown<R: Threads + Wait + Clock + Abort + Sync>(
     rt: &R,
     alloc: Global,
     code: u8,
@@ -301,11 +335,74 @@ pub fn check_shown<R: Threads + Wait + Abort + Sync>(
     }
 }
 
-fn check_misuses<R: Threads + Wait + Abort + Sync>(rt: &R, alloc: Global, cart: &[u8]) {
-    for words in MISUSES.iter() {
+/// Fails where some of these words are taken for a task.
+fn check_misuses<R: Threads + Wait + Clock + Abort + Sync>(
+    rt: &R,
+    alloc: Global,
+    cart: &[u8],
+    rows: &[&[&str]],
+) {
+    for words in rows {
         let end = (2, b"".as_slice(), b"error: ".as_slice());
         check_begins(rt, alloc, words, (cart, ONE_FRAME), end);
     }
+}
+
+/// Words after `--first` that name no part.
+static NO_PARTS: [&str; 18] = [
+    "0/1",
+    "1/0",
+    "2/1",
+    "1/1000001",
+    "1",
+    "1/",
+    "/1",
+    "",
+    "1/2/3",
+    "+1/2",
+    "1/+2",
+    "01/2",
+    "1/02",
+    " 1/2",
+    "1/ 2",
+    "x/2",
+    "1:2",
+    "18446744073709551617/18446744073709551617",
+];
+
+/// Fails where these words of a search, whose part this text isn't, aren't refused for it with a search's usage.
+fn check_no_part<R: Threads + Wait + Clock + Abort + Sync>(
+    rt: &R,
+    alloc: Global,
+    cart: &[u8],
+    words: &[&str],
+    part: &str,
+) {
+    let error = expect_ok(
+        rt,
+        format!(in alloc;
+            "error: invalid value '{part}' for '--first <K/N>': numbers with 1 <= K <= N <= 1000000 are wanted\n\n\
+Usage: tas search [OPTIONS] <CART> <FROM> <FRAMES> <GOAL> < MOVIE\n\n\
+For more information, try '--help'.\n"
+        ),
+    );
+    let end = (2, b"".as_slice(), error.as_bytes());
+    check_begins(rt, alloc, words, (cart, ONE_FRAME), end);
+}
+
+/// A word that begins with a hyphen is a flag for clap: it can be a value after `=` alone.
+const NEGATIVE: &[&str] = &["search", "game.bin", "0", "1", "reach 1", "--first=-1/2"];
+
+#[test]
+fn words_that_name_no_part_end_with_status_2(rt: HostRuntime) {
+    let alloc = rt.alloc();
+    let cart = image_of(&rt, alloc, PLAYFIELD.bytes);
+    let cart = cart.as_slice();
+    for part in NO_PARTS.iter() {
+        let words = ["search", "game.bin", "0", "1", "reach 1", "--first", *part];
+        check_no_part(&rt, alloc, cart, words.as_slice(), part);
+    }
+    check_no_part(&rt, alloc, cart, NEGATIVE, "-1/2");
 }
 
 #[test]
@@ -313,7 +410,10 @@ fn other_words_end_with_status_2(rt: HostRuntime) {
     let alloc = rt.alloc();
     let cart = image_of(&rt, alloc, PLAYFIELD.bytes);
     let cart = cart.as_slice();
-    check_misuses(&rt, alloc, cart);
+    check_misuses(&rt, alloc, cart, MISUSES.as_slice());
+    check_misuses(&rt, alloc, cart, SEARCH_MISUSES.as_slice());
+    check_misuses(&rt, alloc, cart, EDIT_MISUSES.as_slice());
+    check_misuses(&rt, alloc, cart, LOOK_MISUSES.as_slice());
     let line = b"error: the words aren't all text\n".as_slice();
     let end = (2, b"".as_slice(), line);
     let kind = ErrorKind::InvalidData;
@@ -350,7 +450,7 @@ fn a_missing_word_is_named(rt: HostRuntime) {
 }
 
 /// Words that ask for help, and the beginning of the text.
-static HELPS: [Shown<'static>; 20] = [
+static HELPS: [Shown<'static>; 21] = [
     (
         &["--help"],
         b"Replays movies of Atari 2600 cartridges, exactly and from power-on\n\nUsage: tas <COMMAND>\n",
@@ -382,6 +482,10 @@ static HELPS: [Shown<'static>; 20] = [
     (
         &["search", "--help"],
         b"Searches for the best inputs of some frames and writes the script that makes them\n\nUsage: tas search [OPTIONS] <CART> <FROM> <FRAMES> <GOAL> < MOVIE\n",
+    ),
+    (
+        &["verify", "--help"],
+        b"Plays many movies and says which of them still play as their digests say\n\nUsage: tas verify [OPTIONS] < MANIFEST\n",
     ),
     (
         &["shot", "--help"],

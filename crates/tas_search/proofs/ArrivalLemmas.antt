@@ -1,5 +1,5 @@
 -- What the code keeps is the layers of the definitions.
-use Rattle.std.proofs.Common.{◌≡◌, ℕ, zero, suc, ◌+◌, ◌<◌, ◌≤◌, Bool, true, false, List, [], ◌∷◌, ◌++◌, length, map, drop, get_or, Option, Some, None, refl, sym, ap, subst, ◌∙◌, arith, add-one}
+use Rattle.std.proofs.Common.{◌≡◌, ℕ, zero, suc, ◌+◌, ◌-◌, ◌<◌, ◌≤◌, Bool, true, false, List, [], ◌∷◌, ◌++◌, length, map, drop, get_or, Option, Some, None, refl, sym, ap, subst, ◌∙◌, arith, add-one}
 use Rattle.std.specs.Prelude.{◌||◌, if◌then◌else◌, slice_index_or}
 use Rattle.std.specs.List.{list_any}
 use Rattle.std.proofs.lemmas.List.{get_or-drop, get_or_append_left, map-append, append-nil, length-append, length-map, drop_at}
@@ -9,10 +9,12 @@ use Rattle.vcs_machine.specs.Machine.{Machine, unless_halted}
 use Rattle.indexmap.specs.IndexSet.{insert_key, insert_all}
 use Rattle.tas_search.specs.declared.arrival.Arrival.{Arrival}
 use Rattle.tas_search.specs.declared.arrival.Step.{Step}
-use Rattle.tas_search.specs.Space.{SpaceContent, after_choice}
-use Rattle.tas_search.specs.Inside.Layers.{Reached, with_reached, with_all, next_reached, next_from, next_of, grown_from, grown, layers_from, root, layer_of}
-use Rattle.tas_search.specs.Inside.Arrivals.{are_same_arrivals, arrivals_from, arrivals_of, grown_arrivals, no_step, path, with_path, AreWithin, steps_of, IsFrontier}
-use Rattle.tas_search.proofs.LayerLemmas.{layers_more}
+use Rattle.tas_search.specs.Space.{SpaceContent, after_choice, low_at, count_at}
+use Rattle.tas_search.specs.Inside.Layers.{Reached, with_reached, with_all, next_reached, next_from, next_of, grown_from, grown, layers_from, root, first_layer, layer_of}
+use Rattle.tas_search.specs.Inside.Arrivals.{are_same_arrivals, arrivals_from, arrivals_of, grown_arrivals, no_step, path, with_path, AreWithin, steps_of, IsPlaceAfter, IsFrontier}
+use Rattle.tas_search.specs.LayerLines.{state_count, link_count}
+use Rattle.tas_search.proofs.CountLemmas.{layer_states, links_more}
+use Rattle.tas_search.proofs.LayerLemmas.{layer_more}
 
 -- ---- paths
 
@@ -79,15 +81,16 @@ module _ (s : SpaceContent) (parents : List Step) (d : ℕ) where
   map_halted f None bs = refl
   map_halted f (Some x) bs = refl
 
-  pub of_is : (a : Arrival) (place : ℕ) → slice_index_or parents place no_step ≡ a.step → map (with_path parents (suc d)) (arrivals_of s a.state place) ≡ next_of s (with_path parents d a)
+  pub of_is : (a : Arrival) (place : ℕ) → slice_index_or parents (suc place) no_step ≡ a.step
+      → map (with_path parents (suc d)) (arrivals_of s a.state (suc place)) ≡ next_of s (with_path parents d a)
   of_is a place e =
-      map_halted (with_path parents (suc d)) a.state.halt (arrivals_from s a.state place 0 (length s.choices))
-      ∙ ap (λ (rs : List Reached). unless_halted a.state.halt rs []) (from_is a place 0 (length s.choices) e)
+      map_halted (with_path parents (suc d)) a.state.halt (arrivals_from s a.state (suc place) 0 (length s.choices))
+      ∙ ap (λ (rs : List Reached). unless_halted a.state.halt rs []) (from_is a (suc place) 0 (length s.choices) e)
 
   plus : (n : ℕ) → n + 0 ≡ n
   plus n = omega arith
 
-  head_at : (steps : List Step) (step : Step) (place : ℕ) → drop place parents ≡ step ∷ steps → slice_index_or parents place no_step ≡ step
+  pub head_at : (steps : List Step) (step : Step) (place : ℕ) → drop place parents ≡ step ∷ steps → slice_index_or parents place no_step ≡ step
   head_at steps step place e =
       sym (get_or-drop place parents 0 no_step ∙ ap (λ (n : ℕ). slice_index_or parents n no_step) (plus place)) ∙ ap (λ (xs : List Step). slice_index_or xs 0 no_step) e
 
@@ -97,16 +100,27 @@ module _ (s : SpaceContent) (parents : List Step) (d : ℕ) where
   tail_at (x ∷ xs) zero y ys e = cc
   tail_at (x ∷ xs) (suc place) y ys e = tail_at xs place y ys e
 
-  -- what some arrivals reach, whose steps are among the parent links from a place on, before others
-  pub grown_is : (bs next : List Arrival) (place : ℕ) (others : List Step) → drop place parents ≡ steps_of bs ++ others
-      → map (with_path parents (suc d)) (grown_arrivals s next place bs) ≡ grown_from s (map (with_path parents (suc d)) next) (map (with_path parents d) bs)
+  -- what some arrivals reach, whose steps are among the parent links from a place after the start's on, before others
+  pub grown_is : (bs next : List Arrival) (place : ℕ) (others : List Step) → drop (suc place) parents ≡ steps_of bs ++ others
+      → map (with_path parents (suc d)) (grown_arrivals s next (suc place) bs) ≡ grown_from s (map (with_path parents (suc d)) next) (map (with_path parents d) bs)
   grown_is [] next place others e = refl
   grown_is (a ∷ bs) next place others e =
-      grown_is bs (insert_all are_same_arrivals next (arrivals_of s a.state place)) (suc place) others (tail_at parents place a.step (steps_of bs ++ others) e)
+      grown_is bs (insert_all are_same_arrivals next (arrivals_of s a.state (suc place))) (suc place) others (tail_at parents (suc place) a.step (steps_of bs ++ others) e)
       ∙ ap (λ (rs : List Reached). grown_from s rs (map (with_path parents d) bs))
-      (insert_all_is s parents (suc d) next (arrivals_of s a.state place)
-      ∙ ap (λ (rs : List Reached). with_all (map (with_path parents (suc d)) next) rs) (of_is a place (head_at (steps_of bs ++ others) a.step place e))
+      (insert_all_is s parents (suc d) next (arrivals_of s a.state (suc place))
+      ∙ ap (λ (rs : List Reached). with_all (map (with_path parents (suc d)) next) rs) (of_is a place (head_at (steps_of bs ++ others) a.step (suc place) e))
       )
+
+-- what the start reaches
+first_is : (s : SpaceContent) (parents : List Step) (a : Arrival) → slice_index_or parents 0 no_step ≡ a.step → with_path parents 0 a ≡ root s
+    → map (with_path parents 1) (insert_all are_same_arrivals [] (arrivals_of s a.state 0)) ≡ first_layer s
+first_is s parents a e is =
+    insert_all_is s parents 1 [] (arrivals_of s a.state 0)
+    ∙ ap (with_all [])
+    (map_halted s parents 0 (with_path parents 1) a.state.halt (arrivals_from s a.state 0 s.low (s.high - s.low))
+    ∙ ap (λ (rs : List Reached). unless_halted a.state.halt rs []) (from_is s parents 0 a 0 s.low (s.high - s.low) e)
+    ∙ ap (λ (r : Reached). unless_halted r.machine.halt (next_from s r s.low (s.high - s.low)) []) is
+    )
 
 -- ---- the parents of what was added
 
@@ -130,8 +144,8 @@ module _ (s : SpaceContent) (n : ℕ) where
   of_within : (place : ℕ) (m : Machine) → place < n → AreWithin n (steps_of (arrivals_of s m place))
   of_within place m lt = split m.halt
     where
-      split : (h : Option Halt) → AreWithin n (steps_of (unless_halted h (arrivals_from s m place 0 (length s.choices)) []))
-      split None = from_within (length s.choices) 0 place m lt
+      split : (h : Option Halt) → AreWithin n (steps_of (unless_halted h (arrivals_from s m place (low_at s place) (count_at s place)) []))
+      split None = from_within (count_at s place) (low_at s place) place m lt
       split (Some x) = tt
 
   pub grown_within : (bs next : List Arrival) (place : ℕ) → AreWithin n (steps_of next) → place + length bs ≤ n → AreWithin n (steps_of (grown_arrivals s next place bs))
@@ -144,7 +158,42 @@ module _ (s : SpaceContent) (n : ℕ) where
 
 pub root_frontier : (s : SpaceContent) → IsFrontier s 0 0 (no_step ∷ []) (record { state = s.start; step = no_step } ∷ [])
 unfolding layers_from
-root_frontier s = record { layer = refl; within = (omega arith, tt); steps = refl; count = refl }
+root_frontier s = record { layer = refl; within = (omega arith, tt); steps = refl; count = refl; links = refl; after = tt }
+
+no_root : (s : SpaceContent) → ◌≡◌ {A = List Reached} [] (root s ∷ []) → ⊥
+no_root s e = cc
+
+one_root : (s : SpaceContent) (r o : Reached) (rs : List Reached) → r ∷ o ∷ rs ≡ root s ∷ [] → ⊥
+one_root s r o rs e = cc
+
+is_root : (s : SpaceContent) (r : Reached) → r ∷ [] ≡ root s ∷ [] → r ≡ root s
+is_root s r e = cc
+
+-- what a frontier's arrivals reach is the next layer
+pub next_layer_is : (s : SpaceContent) (depth place : ℕ) (parents : List Step) (bs : List Arrival) → IsFrontier s depth place parents bs
+    → map (with_path parents (suc depth)) (grown_arrivals s [] place bs) ≡ layer_of s (suc depth)
+unfolding layers_from
+next_layer_is s zero zero parents [] frontier = absurd (no_root s frontier.layer)
+next_layer_is s zero zero parents (a ∷ []) frontier = first_is s parents a (head_at s parents 0 [] a.step 0 frontier.steps) (is_root s (with_path parents 0 a) frontier.layer)
+next_layer_is s zero zero parents (a ∷ b ∷ bs) frontier = absurd (one_root s (with_path parents 0 a) (with_path parents 0 b) (map (with_path parents 0) bs) frontier.layer)
+next_layer_is s zero (suc place) parents bs frontier = absurd frontier.after
+next_layer_is s (suc depth) zero parents bs frontier = absurd frontier.after
+next_layer_is s (suc depth) (suc place) parents bs frontier =
+    grown_is s parents (suc depth) bs [] place [] (frontier.steps ∙ sym (append-nil (steps_of bs)))
+    ∙ ap (grown s) frontier.layer
+    ∙ sym (layer_more s depth)
+
+-- a frontier has parent links
+some_parents : (s : SpaceContent) (depth place : ℕ) (parents : List Step) (bs : List Arrival) → IsFrontier s depth place parents bs → 0 < length parents
+some_parents s zero zero parents [] frontier = absurd (no_root s frontier.layer)
+some_parents s zero zero parents (a ∷ bs) frontier = omega (arith, frontier.count)
+some_parents s zero (suc place) parents bs frontier = absurd frontier.after
+some_parents s (suc depth) zero parents bs frontier = absurd frontier.after
+some_parents s (suc depth) (suc place) parents bs frontier = omega (arith, frontier.count)
+
+place_after : (depth place : ℕ) → 0 < place → IsPlaceAfter (suc depth) place
+place_after depth zero some = absurd (omega arith)
+place_after depth (suc place) some = tt
 
 -- the arrivals after those of a frontier, whose steps come to the end of the parent links
 pub next_frontier : (s : SpaceContent) (depth place : ℕ) (parents : List Step) (bs next : List Arrival) → IsFrontier s depth place parents bs
@@ -153,17 +202,17 @@ next_frontier s depth place parents bs next frontier e =
     let added : AreWithin (length parents) (steps_of next) =
     subst (λ (ns : List Arrival). AreWithin (length parents) (steps_of ns)) (sym e) (grown_within s (length parents) bs [] place tt (omega (arith, frontier.count))) in
     let count : length (parents ++ steps_of next) ≡ length parents + length next = length-append parents (steps_of next) ∙ ap (λ (n : ℕ). length parents + n) (length-map next (λ a. a.step)) in
-    let is : map (with_path parents (suc depth)) next ≡ layer_of s (suc depth) =
-    ap (map (with_path parents (suc depth))) e
-    ∙ grown_is s parents depth bs [] place [] (frontier.steps ∙ sym (append-nil (steps_of bs)))
-    ∙ ap (grown s) frontier.layer
-    ∙ sym (subst (λ (n : ℕ). layers_from s (root s ∷ []) n ≡ grown s (layer_of s depth)) (add-one depth) (layers_more s depth (root s ∷ []))) in
+    let is : map (with_path parents (suc depth)) next ≡ layer_of s (suc depth) = ap (map (with_path parents (suc depth))) e ∙ next_layer_is s depth place parents bs frontier in
+    let plus : suc depth ≡ depth + 1 = omega arith in
+    let states : length next ≡ state_count s (suc depth) = sym (length-map next (with_path parents (suc depth))) ∙ ap length is ∙ layer_states s (suc depth) in
     record {
       layer = rw add-one (paths_stay parents (steps_of next) (suc depth) next frontier.within added ∙ is);
       within = subst (λ (n : ℕ). AreWithin n (parents ++ steps_of next)) (sym count)
           (within_append (length parents + length next) parents (steps_of next) (within_more (length parents) (length parents + length next) parents (omega arith) frontier.within) (within_more (length parents) (length parents + length next) (steps_of next) (omega arith) added));
       steps = drop_at parents (steps_of next) (length parents) refl;
       count = sym count;
+      links = count ∙ ap (λ (n : ℕ). n + length next) frontier.links ∙ ap (λ (n : ℕ). link_count s depth + n) (states ∙ ap (state_count s) plus) ∙ links_more s depth;
+      after = rw add-one (place_after depth (length parents) (some_parents s depth place parents bs frontier));
     }
 
 within_drop : (n k : ℕ) (steps : List Step) → AreWithin n steps → AreWithin n (drop k steps)

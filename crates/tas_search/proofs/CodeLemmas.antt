@@ -21,21 +21,22 @@ pub going_on : {A : Type 0} (h : Option Halt) (xs : List A) → is_some h ≡ fa
 going_on None xs e = refl
 going_on (Some x) xs e = absurd cc
 
-pub choices_more : (s : SpaceContent) (m : Machine) (place k n : ℕ) (next : List Arrival) → k < n
-    → insert_all are_same_arrivals next (arrivals_from s m place k (n - k))
-    ≡ insert_all are_same_arrivals (insert_key are_same_arrivals next (arrival_at (after_choice s m k) place k)) (arrivals_from s m place (k + 1) (n - (k + 1)))
-choices_more s m place k n next lt =
-    ap (λ (c : ℕ). insert_all are_same_arrivals next (arrivals_from s m place k c)) left
-    ∙ ap (λ (i : ℕ). insert_all are_same_arrivals (insert_key are_same_arrivals next (arrival_at (after_choice s m k) place k)) (arrivals_from s m place i (n - (k + 1)))) after
+-- k of n choices from number `low` on are played, and one more
+pub choices_more : (s : SpaceContent) (m : Machine) (place low k n : ℕ) (next : List Arrival) → k < n
+    → insert_all are_same_arrivals next (arrivals_from s m place (low + k) (n - k))
+    ≡ insert_all are_same_arrivals (insert_key are_same_arrivals next (arrival_at (after_choice s m (low + k)) place (low + k))) (arrivals_from s m place (low + (k + 1)) (n - (k + 1)))
+choices_more s m place low k n next lt =
+    ap (λ (c : ℕ). insert_all are_same_arrivals next (arrivals_from s m place (low + k) c)) left
+    ∙ ap (λ (i : ℕ). insert_all are_same_arrivals (insert_key are_same_arrivals next (arrival_at (after_choice s m (low + k)) place (low + k))) (arrivals_from s m place i (n - (k + 1)))) after
   where
     left : n - k ≡ suc (n - (k + 1))
     left = omega arith
 
-    after : suc k ≡ k + 1
+    after : suc (low + k) ≡ low + (k + 1)
     after = omega arith
 
-pub choices_none : (s : SpaceContent) (m : Machine) (place n : ℕ) (next : List Arrival) → insert_all are_same_arrivals next (arrivals_from s m place n (n - n)) ≡ next
-choices_none s m place n next = ap (λ (c : ℕ). insert_all are_same_arrivals next (arrivals_from s m place n c)) left
+pub choices_none : (s : SpaceContent) (m : Machine) (place k n : ℕ) (next : List Arrival) → insert_all are_same_arrivals next (arrivals_from s m place k (n - n)) ≡ next
+choices_none s m place k n next = ap (λ (c : ℕ). insert_all are_same_arrivals next (arrivals_from s m place k c)) left
   where
     left : n - n ≡ 0
     left = omega arith
@@ -96,13 +97,13 @@ path_over parents depth step found = ap (λ (n : ℕ). path parents n step ++ re
     left = omega arith
 
 -- one choice more, by what the code has at hand
-pub choice_added : (s : SpaceContent) (m reached : Machine) (place k n : ℕ) (now next final : List Arrival) → k < n → reached ≡ after_choice s m k
-    → next ≡ insert_key are_same_arrivals now (arrival_at reached place k)
-    → insert_all are_same_arrivals now (arrivals_from s m place k (n - k)) ≡ final → insert_all are_same_arrivals next (arrivals_from s m place (k + 1) (n - (k + 1))) ≡ final
-choice_added s m reached place k n now next final lt at e inv =
-    ap (λ (ks : List Arrival). insert_all are_same_arrivals ks (arrivals_from s m place (k + 1) (n - (k + 1))))
-    (e ∙ ap (λ (x : Machine). insert_key are_same_arrivals now (arrival_at x place k)) at)
-    ∙ sym (choices_more s m place k n now lt)
+pub choice_added : (s : SpaceContent) (m reached : Machine) (place low k n : ℕ) (now next final : List Arrival) → k < n → reached ≡ after_choice s m (low + k)
+    → next ≡ insert_key are_same_arrivals now (arrival_at reached place (low + k))
+    → insert_all are_same_arrivals now (arrivals_from s m place (low + k) (n - k)) ≡ final → insert_all are_same_arrivals next (arrivals_from s m place (low + (k + 1)) (n - (k + 1))) ≡ final
+choice_added s m reached place low k n now next final lt at e inv =
+    ap (λ (ks : List Arrival). insert_all are_same_arrivals ks (arrivals_from s m place (low + (k + 1)) (n - (k + 1))))
+    (e ∙ ap (λ (x : Machine). insert_key are_same_arrivals now (arrival_at x place (low + k))) at)
+    ∙ sym (choices_more s m place low k n now lt)
     ∙ inv
 
 -- the same by what the code has at hand
@@ -153,19 +154,15 @@ none_added s m same place (suc n) k ks there alike =
     ∙ none_added s m same place n (suc k) ks there alike
 
 -- where all choices reach the same, the first adds all
-pub first_adds_all : (s : SpaceContent) (m reached : Machine) (place n : ℕ) (now next : List Arrival) → 0 < n → reached ≡ after_choice s m 0 → next ≡ insert_key are_same_arrivals now (arrival_at reached place 0)
-    → ((j : ℕ) → after_choice s m j ≡ reached) → next ≡ insert_all are_same_arrivals now (arrivals_from s m place 0 n)
-first_adds_all s m reached place n now next lt at e alike =
-    sym (none_added s m reached place (n - (0 + 1)) (0 + 1) next there alike)
-    ∙ choice_added s m reached place 0 n now next (insert_all are_same_arrivals now (arrivals_from s m place 0 n)) lt at e whole
+pub first_adds_all : (s : SpaceContent) (m reached : Machine) (place low n : ℕ) (now next : List Arrival) → 0 < n → reached ≡ after_choice s m low
+    → next ≡ insert_key are_same_arrivals now (arrival_at reached place low)
+    → ((j : ℕ) → after_choice s m j ≡ reached) → next ≡ insert_all are_same_arrivals now (arrivals_from s m place low n)
+first_adds_all s m reached place low zero now next lt at e alike = absurd (omega arith)
+first_adds_all s m reached place low (suc n) now next lt at e alike =
+    sym (none_added s m reached place n (suc low) next there alike)
+    ∙ ap (λ (ks : List Arrival). insert_all are_same_arrivals ks (arrivals_from s m place (suc low) n)) (e ∙ ap (λ (x : Machine). insert_key are_same_arrivals now (arrival_at x place low)) at)
   where
     there : list_any (λ o. are_same_machines reached o.state) next ≡ true
     there =
         ap (list_any (λ o. are_same_machines reached o.state)) e
-        ∙ known_added (arrival_at reached place 0) (list_any (are_same_arrivals (arrival_at reached place 0)) now) now refl
-
-    whole : insert_all are_same_arrivals now (arrivals_from s m place 0 (n - 0)) ≡ insert_all are_same_arrivals now (arrivals_from s m place 0 n)
-    whole = ap (λ (c : ℕ). insert_all are_same_arrivals now (arrivals_from s m place 0 c)) left
-      where
-        left : n - 0 ≡ n
-        left = omega arith
+        ∙ known_added (arrival_at reached place low) (list_any (are_same_arrivals (arrival_at reached place low)) now) now refl

@@ -1,5 +1,5 @@
 -- The layers of the code have the machines of the definitions, each once, and their numbers.
-use Rattle.std.proofs.Common.{◌≡◌, ℕ, zero, suc, ◌+◌, ◌-◌, ◌*◌, Bool, true, false, List, [], ◌∷◌, ◌++◌, length, map, refl, sym, ap, subst, ◌∙◌, arith, append_assoc, add-one}
+use Rattle.std.proofs.Common.{◌≡◌, ℕ, zero, suc, ◌+◌, ◌-◌, ◌*◌, Bool, true, false, List, [], ◌∷◌, ◌++◌, length, map, refl, sym, ap, subst, ◌∙◌, arith, append_assoc}
 use Rattle.std.specs.Prelude.{◌||◌, if◌then◌else◌, Option, Some, None, flat_map, filter_map, sum_by}
 use Rattle.std.specs.List.{list_any, range_with_len, cons_option}
 use Rattle.std.proofs.lemmas.List.Elements.{filter_map-append}
@@ -11,13 +11,13 @@ use Rattle.vcs_machine.specs.Equality.{are_same_machines, machines_decide}
 use Rattle.vcs_machine.specs.Machine.{Machine, unless_halted}
 use Rattle.tas_search.specs.declared.arrival.Arrival.{Arrival}
 use Rattle.tas_search.specs.declared.arrival.Step.{Step}
-use Rattle.tas_search.specs.Space.{SpaceContent, after_choice, reached_from, reached}
-use Rattle.tas_search.specs.LayerLines.{sequences, all_reached, with_machine, with_machines, layer, going_on, tried, state_count, merged_count, line_of, layer_line}
-use Rattle.tas_search.specs.Inside.Layers.{Reached, with_reached, with_all, next_from, next_of, grown_from, grown, layers_from, root, layer_of}
+use Rattle.tas_search.specs.Space.{SpaceContent, after_choice, reached_from, reached, low_at, count_at}
+use Rattle.tas_search.specs.LayerLines.{sequences, all_reached, with_machine, with_machines, layer, going_on, tried, state_count, merged_count, played_count, link_count, held_bytes, rate_of, line_front, line_back, layer_line}
+use Rattle.tas_search.specs.Inside.Layers.{Reached, with_reached, with_all, next_from, next_of, grown_from, layers_from, root, first_of, layer_of}
 use Rattle.tas_search.specs.Inside.Arrivals.{with_path, tried_of, IsFrontier}
 use Rattle.tas_search.specs.declared.counting.LayerCounts.{LayerCounts}
 use Rattle.tas_search.specs.Inside.Counts.{AreCounts}
-use Rattle.tas_search.proofs.LayerLemmas.{layers_more}
+use Rattle.tas_search.proofs.LayerLemmas.{layer_more}
 
 -- ---- each machine once
 
@@ -141,8 +141,11 @@ module _ (s : SpaceContent) where
   abbrev by_choices : Machine → ℕ → ℕ → List Machine
   by_choices m k n = map (after_choice s m) (range_with_len k n)
 
+  abbrev after_some : ℕ → ℕ → Machine → List Machine
+  after_some k n m = unless_halted m.halt (by_choices m k n) []
+
   abbrev after_all : Machine → List Machine
-  after_all m = unless_halted m.halt (by_choices m 0 (length s.choices)) []
+  after_all m = after_some 0 (length s.choices) m
 
   abbrev machines_of : List Reached → List Machine
   machines_of rs = map (λ r. r.machine) rs
@@ -169,18 +172,18 @@ module _ (s : SpaceContent) where
       next : suc k ≡ k + 1
       next = omega arith
 
-  of_are : (r : Reached) → machines_of (next_of s r) ≡ after_all r.machine
-  of_are r = split r.machine.halt
+  some_are : (r : Reached) (k n : ℕ) → machines_of (unless_halted r.machine.halt (next_from s r k n) []) ≡ after_some k n r.machine
+  some_are r k n = split r.machine.halt
     where
-      split : (h : Option Halt) → machines_of (unless_halted h (next_from s r 0 (length s.choices)) []) ≡ unless_halted h (by_choices r.machine 0 (length s.choices)) []
-      split None = from_are r 0 (length s.choices)
+      split : (h : Option Halt) → machines_of (unless_halted h (next_from s r k n) []) ≡ unless_halted h (by_choices r.machine k n) []
+      split None = from_are r k n
       split (Some x) = refl
 
   grown_are : (rs next : List Reached) → machines_of (grown_from s next rs) ≡ with_machines (machines_of next) (flat_map after_all (machines_of rs))
   grown_are [] next = refl
   grown_are (r ∷ rs) next =
       grown_are rs (with_all next (next_of s r))
-      ∙ ap (λ (ms : List Machine). with_machines ms (flat_map after_all (machines_of rs))) (all_is (next_of s r) next ∙ ap (with_machines (machines_of next)) (of_are r))
+      ∙ ap (λ (ms : List Machine). with_machines ms (flat_map after_all (machines_of rs))) (all_is (next_of s r) next ∙ ap (with_machines (machines_of next)) (some_are r 0 (length s.choices)))
       ∙ sym (after_append (after_all r.machine) (flat_map after_all (machines_of rs)) (machines_of next))
 
   -- ---- the machines that one choice more reaches, by sequences
@@ -199,10 +202,10 @@ module _ (s : SpaceContent) where
       split None rest = rest
       split (Some h) rest = refl
 
-  -- all that a machine leads to, if there is one
-  abbrev after_option : Option Machine → List Machine
-  after_option None = []
-  after_option (Some m) = after_all m
+  -- all that a machine leads to by n choices from number k on, if there is one
+  abbrev after_option : ℕ → ℕ → Option Machine → List Machine
+  after_option k n None = []
+  after_option k n (Some m) = after_some k n m
 
   choices_reach : (ks : List ℕ) (k n : ℕ) → filter_map (reached s) (map (λ i. ks ++ i ∷ []) (range_with_len k n)) ≡ filter_map (next_option (reached s ks)) (range_with_len k n)
   choices_reach ks k zero = refl
@@ -220,41 +223,47 @@ module _ (s : SpaceContent) where
   none_reach [] = refl
   none_reach (k ∷ ks) = none_reach ks
 
-  option_reach : (o : Option Machine) → filter_map (next_option o) (range_with_len 0 (length s.choices)) ≡ after_option o
-  option_reach None = none_reach (range_with_len 0 (length s.choices))
-  option_reach (Some m) = some_reach m.halt m (range_with_len 0 (length s.choices))
+  option_reach : (k n : ℕ) (o : Option Machine) → filter_map (next_option o) (range_with_len k n) ≡ after_option k n o
+  option_reach k n None = none_reach (range_with_len k n)
+  option_reach k n (Some m) = some_reach m.halt m (range_with_len k n)
 
-  cons_after : (o : Option Machine) (ms : List Machine) → after_option o ++ flat_map after_all ms ≡ flat_map after_all (cons_option o ms)
-  cons_after None ms = refl
-  cons_after (Some m) ms = refl
+  cons_after : (k n : ℕ) (o : Option Machine) (ms : List Machine) → after_option k n o ++ flat_map (after_some k n) ms ≡ flat_map (after_some k n) (cons_option o ms)
+  cons_after k n None ms = refl
+  cons_after k n (Some m) ms = refl
 
-  sequences_reach : (seqs : List (List ℕ)) → filter_map (reached s) (flat_map (λ ks. map (λ k. ks ++ k ∷ []) (range_with_len 0 (length s.choices))) seqs)
-      ≡ flat_map after_all (filter_map (reached s) seqs)
-  sequences_reach [] = refl
-  sequences_reach (ks ∷ seqs) =
-      filter_map-append (reached s) (map (λ k. ks ++ k ∷ []) (range_with_len 0 (length s.choices))) (flat_map (λ ks. map (λ k. ks ++ k ∷ []) (range_with_len 0 (length s.choices))) seqs)
-      ∙ ap (λ (ms : List Machine). ms ++ filter_map (reached s) (flat_map (λ ks. map (λ k. ks ++ k ∷ []) (range_with_len 0 (length s.choices))) seqs))
-      (choices_reach ks 0 (length s.choices) ∙ option_reach (reached s ks))
-      ∙ ap (λ (ms : List Machine). after_option (reached s ks) ++ ms) (sequences_reach seqs)
-      ∙ cons_after (reached s ks) (filter_map (reached s) seqs)
+  sequences_reach : (k n : ℕ) (seqs : List (List ℕ)) → filter_map (reached s) (flat_map (λ ks. map (λ i. ks ++ i ∷ []) (range_with_len k n)) seqs)
+      ≡ flat_map (after_some k n) (filter_map (reached s) seqs)
+  sequences_reach k n [] = refl
+  sequences_reach k n (ks ∷ seqs) =
+      filter_map-append (reached s) (map (λ i. ks ++ i ∷ []) (range_with_len k n)) (flat_map (λ ks. map (λ i. ks ++ i ∷ []) (range_with_len k n)) seqs)
+      ∙ ap (λ (ms : List Machine). ms ++ filter_map (reached s) (flat_map (λ ks. map (λ i. ks ++ i ∷ []) (range_with_len k n)) seqs))
+      (choices_reach ks k n ∙ option_reach k n (reached s ks))
+      ∙ ap (λ (ms : List Machine). after_option k n (reached s ks) ++ ms) (sequences_reach k n seqs)
+      ∙ cons_after k n (reached s ks) (filter_map (reached s) seqs)
 
-  all_more : (n : ℕ) → all_reached s (suc n) ≡ flat_map after_all (all_reached s n)
-  all_more n = sequences_reach (sequences (length s.choices) n)
+  all_more : (n : ℕ) → all_reached s (suc n) ≡ flat_map (after_some (low_at s n) (count_at s n)) (all_reached s n)
+  all_more n = sequences_reach (low_at s n) (count_at s n) (sequences s n)
 
   -- ---- layers
 
-  first_machines : machines_of (layer_of s 0) ≡ layer s 0
+  first_machines : machines_of (layer_of s 1) ≡ layer s 1
   unfolding layers_from
-  first_machines = refl
+  first_machines =
+      all_is (first_of s) []
+      ∙ ap (with_machines []) (some_are (root s) s.low (s.high - s.low) ∙ sym (append-nil (after_some s.low (s.high - s.low) s.start)) ∙ sym (all_more 0))
 
   layer_machines : (n : ℕ) → machines_of (layer_of s n) ≡ layer s n
-  layer_machines zero = first_machines
-  layer_machines (suc n) =
-      ap machines_of (subst (λ (k : ℕ). layers_from s (root s ∷ []) k ≡ grown s (layer_of s n)) (add-one n) (layers_more s n (root s ∷ [])))
-      ∙ grown_are (layer_of s n) []
-      ∙ ap (λ (ms : List Machine). with_machines [] (flat_map after_all ms)) (layer_machines n)
-      ∙ sym (each_once after_all (all_reached s n))
-      ∙ ap (with_machines []) (sym (all_more n))
+  layer_machines zero = refl
+  layer_machines (suc zero) = first_machines
+  layer_machines (suc (suc n)) =
+      ap machines_of (layer_more s n)
+      ∙ grown_are (layer_of s (suc n)) []
+      ∙ ap (λ (ms : List Machine). with_machines [] (flat_map after_all ms)) (layer_machines (suc n))
+      ∙ sym (each_once after_all (all_reached s (suc n)))
+      ∙ ap (with_machines []) (sym (all_more (suc n)))
+
+  pub layer_states : (n : ℕ) → length (layer_of s n) ≡ state_count s n
+  layer_states n = sym (length-map (layer_of s n) (λ r. r.machine)) ∙ ap length (layer_machines n)
 
   paths_machines : (parents : List Step) (d : ℕ) (bs : List Arrival) → machines_of (map (with_path parents d) bs) ≡ map (λ a. a.state) bs
   paths_machines parents d [] = refl
@@ -275,31 +284,61 @@ module _ (s : SpaceContent) where
   pub frontier_sum : (f : Machine → ℕ) (depth place : ℕ) (parents : List Step) (bs : List Arrival) → IsFrontier s depth place parents bs → sum_by (λ a. f a.state) bs ≡ sum_by f (layer s depth)
   frontier_sum f depth place parents bs frontier = sum_states f bs ∙ ap (sum_by f) (frontier_layer depth place parents bs frontier)
 
+later_tries : (s : SpaceContent) (depth place : ℕ) (bs : List Arrival) → tried_of s (suc place) bs ≡ sum_by (λ a. tried s (suc depth) a.state) bs
+later_tries s depth place [] = refl
+later_tries s depth place (a ∷ bs) =
+    ap (λ (n : ℕ). tried s (suc depth) a.state + n) (later_tries s depth (suc place) bs) ∙ sym (sum_by-cons (λ (b : Arrival). tried s (suc depth) b.state) a bs)
+
+-- how many choices are played from a frontier
+frontier_tries : (s : SpaceContent) (depth place : ℕ) (parents : List Step) (bs : List Arrival) → IsFrontier s depth place parents bs → tried_of s place bs ≡ sum_by (λ a. tried s depth a.state) bs
+frontier_tries s zero zero parents [] frontier = refl
+frontier_tries s zero zero parents (a ∷ []) frontier = sym (sum_by-cons (λ (b : Arrival). tried s 0 b.state) a [])
+frontier_tries s zero zero parents (a ∷ b ∷ bs) frontier = let one : suc (suc (length bs)) ≡ 1 = frontier_states s 0 0 parents (a ∷ b ∷ bs) frontier in absurd (omega (arith, one))
+frontier_tries s zero (suc place) parents bs frontier = absurd frontier.after
+frontier_tries s (suc depth) zero parents bs frontier = absurd frontier.after
+frontier_tries s (suc depth) (suc place) parents bs frontier = later_tries s depth place bs
+
+pub links_more : (s : SpaceContent) (depth : ℕ) → link_count s depth + state_count s (depth + 1) ≡ link_count s (depth + 1)
+links_more s depth = ap (λ (n : ℕ). link_count s depth + state_count s n) next ∙ ap (link_count s) (sym next)
+  where
+    next : depth + 1 ≡ suc depth
+    next = omega arith
+
 -- the numbers of the layer after a frontier's, by what the code has at hand
-pub counts_are : (s : SpaceContent) (depth place place' : ℕ) (parents parents' : List Step) (bs given next : List Arrival) (tries states : ℕ) (counts : LayerCounts) → IsFrontier s depth place parents bs
-    → IsFrontier s (depth + 1) place' parents' next → given ≡ bs → states ≡ length next → tries ≡ tried_of s given
-    → counts ≡ record { states = states; merged = sum_by (λ a. going_on s a.state) given - states; played = tries * s.hold } → AreCounts s (depth + 1) counts
-counts_are s depth place place' parents parents' bs given next tries states counts old new same e tried_is is =
+pub counts_are : (s : SpaceContent) (depth place place' : ℕ) (parents parents' : List Step) (bs given next : List Arrival) (tries states links : ℕ) (counts : LayerCounts) → IsFrontier s depth place parents bs
+    → IsFrontier s (depth + 1) place' parents' next → given ≡ bs → states ≡ length next → tries ≡ tried_of s place given → links ≡ length parents
+    → counts ≡ record { states = states; merged = sum_by (λ a. going_on s depth a.state) given - states; played = tries * s.hold; bytes = held_bytes (length given) states (links + states) } → AreCounts s (depth + 1) counts
+counts_are s depth place place' parents parents' bs given next tries states links counts old new same e tried_is links_are is =
     let whole : states ≡ state_count s (depth + 1) = e ∙ frontier_states s (depth + 1) place' parents' next new in
     let before : depth ≡ (depth + 1) - 1 = omega arith in
     record {
       states = ap (λ (c : LayerCounts). c.states) is ∙ whole;
       merged = ap (λ (c : LayerCounts). c.merged) is
-          ∙ ap (λ (n : ℕ). sum_by (λ a. going_on s a.state) given - n) whole
+          ∙ ap (λ (n : ℕ). sum_by (λ a. going_on s depth a.state) given - n) whole
           ∙ ap (λ (n : ℕ). n - state_count s (depth + 1))
-          (ap (λ (xs : List Arrival). sum_by (λ a. going_on s a.state) xs) same ∙ frontier_sum s (going_on s) depth place parents bs old ∙ ap (λ (n : ℕ). sum_by (going_on s) (layer s n)) before);
+          (ap (λ (xs : List Arrival). sum_by (λ a. going_on s depth a.state) xs) same ∙ frontier_sum s (going_on s depth) depth place parents bs old ∙ ap (λ (n : ℕ). sum_by (going_on s n) (layer s n)) before);
       played = ap (λ (c : LayerCounts). c.played) is
           ∙ ap (λ (n : ℕ). n * s.hold)
-          (tried_is ∙ ap (tried_of s) same ∙ frontier_sum s (tried s) depth place parents bs old ∙ ap (λ (n : ℕ). sum_by (tried s) (layer s n)) before);
+          (tried_is
+          ∙ ap (tried_of s place) same
+          ∙ frontier_tries s depth place parents bs old
+          ∙ frontier_sum s (tried s depth) depth place parents bs old
+          ∙ ap (λ (n : ℕ). sum_by (tried s n) (layer s n)) before);
+      bytes = ap (λ (c : LayerCounts). c.bytes) is
+          ∙ ap (λ (n : ℕ). held_bytes n states (links + states)) (ap length same ∙ frontier_states s depth place parents bs old ∙ ap (state_count s) before)
+          ∙ ap (λ (n : ℕ). held_bytes (state_count s ((depth + 1) - 1)) states (n + states)) (links_are ∙ old.links)
+          ∙ ap (λ (n : ℕ). held_bytes (state_count s ((depth + 1) - 1)) n (link_count s depth + n)) whole
+          ∙ ap (held_bytes (state_count s ((depth + 1) - 1)) (state_count s (depth + 1))) (links_more s depth);
     }
 
 -- the line of a layer, by what the code has at hand
-pub line_is : (s : SpaceContent) (depth next hold : ℕ) (counts : LayerCounts) (text : List ℕ) → next ≡ depth + 1 → hold ≡ s.hold → AreCounts s next counts
-    → text ≡ line_of next (next * hold) counts.states counts.merged counts.played → text ≡ layer_line s (depth + 1)
-line_is s depth next hold counts text deeper held are is =
+pub line_is : (s : SpaceContent) (depth next hold nanos : ℕ) (counts : LayerCounts) (text : List ℕ) → next ≡ depth + 1 → hold ≡ s.hold → AreCounts s next counts
+    → text ≡ line_front next (next * hold) counts.states ++ line_back counts.merged counts.played counts.bytes (rate_of counts.played nanos) → text ≡ layer_line s (depth + 1) nanos
+line_is s depth next hold nanos counts text deeper held are is =
     is
-    ∙ ap (λ (n : ℕ). line_of next (next * n) counts.states counts.merged counts.played) held
-    ∙ ap (λ (n : ℕ). line_of next (next * s.hold) n counts.merged counts.played) are.states
-    ∙ ap (λ (n : ℕ). line_of next (next * s.hold) (state_count s next) n counts.played) are.merged
-    ∙ ap (λ (n : ℕ). line_of next (next * s.hold) (state_count s next) (merged_count s next) n) are.played
-    ∙ ap (layer_line s) deeper
+    ∙ ap (λ (n : ℕ). line_front next (next * n) counts.states ++ line_back counts.merged counts.played counts.bytes (rate_of counts.played nanos)) held
+    ∙ ap (λ (n : ℕ). line_front next (next * s.hold) n ++ line_back counts.merged counts.played counts.bytes (rate_of counts.played nanos)) are.states
+    ∙ ap (λ (n : ℕ). line_front next (next * s.hold) (state_count s next) ++ line_back n counts.played counts.bytes (rate_of counts.played nanos)) are.merged
+    ∙ ap (λ (n : ℕ). line_front next (next * s.hold) (state_count s next) ++ line_back (merged_count s next) n counts.bytes (rate_of n nanos)) are.played
+    ∙ ap (λ (n : ℕ). line_front next (next * s.hold) (state_count s next) ++ line_back (merged_count s next) (played_count s next) n (rate_of (played_count s next) nanos)) are.bytes
+    ∙ ap (λ (n : ℕ). layer_line s n nanos) deeper

@@ -1,6 +1,8 @@
 -- A layer that grows by parts is what it grows to at once.
 use Rattle.std.proofs.Common.{◌≡◌, ℕ, zero, suc, ◌+◌, ◌-◌, ◌*◌, ◌<◌, ◌≤◌, Bool, true, false, List, [], ◌∷◌, ◌++◌, length, take, drop, get_or, refl, sym, ap, subst, ◌∙◌, inl, inr, arith}
-use Rattle.std.specs.Prelude.{min, slice_index_or, is_some, if◌then◌else◌, Option, Some, None, ◌⊎◌}
+use Rattle.std.specs.Prelude.{◌||◌, min, slice_index_or, is_some, if◌then◌else◌, Option, Some, None, ◌⊎◌}
+use Rattle.std.specs.List.{list_any, range_with_len}
+use Rattle.std.proofs.lemmas.List.Folds.{list_any-append}
 use Rattle.std.proofs.lemmas.Bool.{cases_lt}
 use Rattle.std.proofs.Math.Nat.{suc-mul}
 use Rattle.std.proofs.Math.Seq.{take-add}
@@ -8,13 +10,14 @@ use Rattle.std.proofs.lemmas.List.{take_more, length-take, length_push, take_all
 use Rattle.std.proofs.lemmas.List.Sums.{fold_push, sum_by-append, sum_by-cons}
 use Rattle.vcs_inputs.specs.Input.{no_input}
 use Rattle.vcs_cpu.specs.declared.halt.Halt.{Halt}
+use Rattle.vcs_machine.specs.Equality.{are_same_machines, machines_decide}
 use Rattle.vcs_machine.specs.Machine.{Machine, unless_halted}
 use Rattle.indexmap.specs.IndexSet.{insert_key, insert_all}
 use Rattle.tas_search.specs.declared.arrival.Arrival.{Arrival}
 use Rattle.tas_search.specs.declared.reaching.Part.{Part}
-use Rattle.tas_search.specs.Space.{SpaceContent, after_choice, are_lag_frames}
-use Rattle.tas_search.specs.LayerLines.{tried}
-use Rattle.tas_search.specs.Inside.Arrivals.{are_same_arrivals, arrival_at, arrivals_from, arrivals_of, grown_arrivals, tried_of, Lists, ListsOneMore, stretch_at, AreParts, with_parts, listed_of, TakesFirst, TakesParts, GrowsBy, IsOver}
+use Rattle.tas_search.specs.Space.{SpaceContent, after_choice, are_lag_frames, low_at, count_at}
+use Rattle.tas_search.specs.LayerLines.{next_choices, played_of, tried}
+use Rattle.tas_search.specs.Inside.Arrivals.{are_same_arrivals, arrival_at, arrivals_from, arrivals_of, grown_arrivals, tried_of, Finds, Lists, ListsOneMore, stretch_at, AreParts, with_parts, listed_of, TakesFirst, TakesParts, GrowsBy, IsOver}
 use Rattle.tas_search.proofs.CodeLemmas.{grown_push, choice_added, choices_none, first_adds_all, halted_none, going_on as goes_on}
 
 -- ---- lists
@@ -34,8 +37,23 @@ grown_append s (x ∷ xs) ys next place =
     here : suc place + length xs ≡ place + suc (length xs)
     here = omega arith
 
-pub tried_append : (s : SpaceContent) (xs ys : List Arrival) → tried_of s (xs ++ ys) ≡ tried_of s xs + tried_of s ys
-tried_append s xs ys = sum_by-append (λ (a : Arrival). tried s a.state) xs ys
+pub tried_append : (s : SpaceContent) (place : ℕ) (xs ys : List Arrival) → tried_of s place (xs ++ ys) ≡ tried_of s place xs + tried_of s (place + length xs) ys
+tried_append s place [] ys = ap (λ (p : ℕ). tried_of s p ys) here ∙ none (tried_of s (place + 0) ys)
+  where
+    here : place ≡ place + 0
+    here = omega arith
+
+    none : (n : ℕ) → n ≡ 0 + n
+    none n = omega arith
+tried_append s place (x ∷ xs) ys =
+    ap (λ (n : ℕ). tried s place x.state + n) (tried_append s (suc place) xs ys ∙ ap (λ (p : ℕ). tried_of s (suc place) xs + tried_of s p ys) here)
+    ∙ regroup (tried s place x.state) (tried_of s (suc place) xs) (tried_of s (place + suc (length xs)) ys)
+  where
+    here : suc place + length xs ≡ place + suc (length xs)
+    here = omega arith
+
+    regroup : (a b c : ℕ) → a + (b + c) ≡ (a + b) + c
+    regroup a b c = omega arith
 
 -- one arrival more in a worker's list
 pub lists_more : (s : SpaceContent) (place j : ℕ) (bs old new : List Arrival) (a : Arrival) → j < length bs → a ≡ get_or bs j a → Lists s place (take j bs) old → ListsOneMore s a.state (place + j) old new
@@ -47,7 +65,7 @@ lists_more s place j bs old new a lt is h more = record {
       ∙ ap (λ (n : ℕ). insert_all are_same_arrivals (grown_arrivals s next place (take j bs)) (arrivals_of s a.state (place + n))) whole
       ∙ sym (grown_push s (take j bs) next place a)
       ∙ ap (grown_arrivals s next place) taken;
-  count = omega (arith, more.count, h.count, tried_append s (take j bs) (a ∷ []), sum_by-cons (λ (b : Arrival). tried s b.state) a [], ap (tried_of s) taken);
+  count = omega (arith, more.count, h.count, tried_append s place (take j bs) (a ∷ []), ap (λ (n : ℕ). tried_of s (place + n) (a ∷ [])) whole, ap (tried_of s place) taken);
 }
   where
     whole : j ≡ length (take j bs)
@@ -67,99 +85,203 @@ insert_more old now new list i a lt is h e =
 
 -- ---- one state's choices
 
-pub halted_tries : (s : SpaceContent) (m : Machine) → is_some m.halt ≡ true → tried s m ≡ 0
-halted_tries s m e = split m.halt (if are_lag_frames s.cart m (slice_index_or s.choices 0 no_input) s.hold then min 1 (length s.choices) else length s.choices) e
+pub halted_tries : (s : SpaceContent) (place : ℕ) (m : Machine) → is_some m.halt ≡ true → tried s place m ≡ 0
+halted_tries s place m e = split m.halt (length (played_of s m (next_choices s place))) e
   where
     split : (h : Option Halt) (n : ℕ) → is_some h ≡ true → unless_halted h n 0 ≡ 0
     split None n e = absurd cc
     split (Some x) n e = refl
 
-pub tries_are : (s : SpaceContent) (m : Machine) (lag : Bool) → is_some m.halt ≡ false → lag ≡ are_lag_frames s.cart m (slice_index_or s.choices 0 no_input) s.hold
-    → tried s m ≡ (if lag then min 1 (length s.choices) else length s.choices)
-tries_are s m lag e is = split m.halt (if are_lag_frames s.cart m (slice_index_or s.choices 0 no_input) s.hold then min 1 (length s.choices) else length s.choices) e ∙ ap (λ (b : Bool). if b then min 1 (length s.choices) else length s.choices) (sym is)
+-- of n choices from number k on one is played where all frames of the first are lag frames, and else all
+range_tries : (s : SpaceContent) (m : Machine) (k n : ℕ)
+    → length (played_of s m (range_with_len k n)) ≡ (if are_lag_frames s.cart m (slice_index_or s.choices k no_input) s.hold then min 1 n else n)
+range_tries s m k zero = none (are_lag_frames s.cart m (slice_index_or s.choices k no_input) s.hold)
+  where
+    none : (b : Bool) → 0 ≡ (if b then min 1 0 else 0)
+    none true = omega arith
+    none false = refl
+range_tries s m k (suc n) = some (are_lag_frames s.cart m (slice_index_or s.choices k no_input) s.hold)
+  where
+    range_length : (k n : ℕ) → length (range_with_len k n) ≡ n
+    range_length k zero = refl
+    range_length k (suc n) = ap suc (range_length (k + 1) n)
+
+    some : (b : Bool) → suc (length (if b then [] else range_with_len (k + 1) n)) ≡ (if b then min 1 (suc n) else suc n)
+    some true = omega arith
+    some false = ap suc (range_length (k + 1) n)
+
+pub tries_are : (s : SpaceContent) (place : ℕ) (m : Machine) (lag : Bool) → is_some m.halt ≡ false → lag ≡ are_lag_frames s.cart m (slice_index_or s.choices (low_at s place) no_input) s.hold
+    → tried s place m ≡ (if lag then min 1 (count_at s place) else count_at s place)
+tries_are s place m lag e is =
+    split m.halt (length (played_of s m (next_choices s place))) e
+    ∙ range_tries s m (low_at s place) (count_at s place)
+    ∙ ap (λ (b : Bool). if b then min 1 (count_at s place) else count_at s place) (sym is)
   where
     split : (h : Option Halt) (n : ℕ) → is_some h ≡ false → unless_halted h n 0 ≡ n
     split None n e = refl
     split (Some x) n e = absurd cc
 
--- a list of what the choices up to number k reach; what those after it reach makes it whole
+-- a list of what the first k of the choices that can come next reach; what those after it reach makes it whole
 pub record ListsSome (s : SpaceContent) (m : Machine) (place k : ℕ) (old list : List Arrival) : Type 0 where
-  pub adds : (next : List Arrival) → insert_all are_same_arrivals (insert_all are_same_arrivals next list) (arrivals_from s m place k (length s.choices - k))
-      ≡ insert_all are_same_arrivals (insert_all are_same_arrivals next old) (arrivals_from s m place 0 (length s.choices))
+  pub adds : (next : List Arrival) → insert_all are_same_arrivals (insert_all are_same_arrivals next list) (arrivals_from s m place (low_at s place + k) (count_at s place - k))
+      ≡ insert_all are_same_arrivals (insert_all are_same_arrivals next old) (arrivals_from s m place (low_at s place) (count_at s place))
   pub count : length list ≡ length old + k
 
 lists_first : (s : SpaceContent) (m : Machine) (place : ℕ) (old : List Arrival) → ListsSome s m place 0 old old
-lists_first s m place old = record { adds = λ next. ap (λ (n : ℕ). insert_all are_same_arrivals (insert_all are_same_arrivals next old) (arrivals_from s m place 0 n)) whole; count = plus }
+lists_first s m place old = record {
+  adds = λ next.
+      ap (λ (n : ℕ). insert_all are_same_arrivals (insert_all are_same_arrivals next old) (arrivals_from s m place (low_at s place + 0) n)) whole
+      ∙ ap (λ (k : ℕ). insert_all are_same_arrivals (insert_all are_same_arrivals next old) (arrivals_from s m place k (count_at s place))) plus;
+  count = sum;
+}
   where
-    whole : length s.choices - 0 ≡ length s.choices
+    whole : count_at s place - 0 ≡ count_at s place
     whole = omega arith
 
-    plus : length old ≡ length old + 0
+    plus : low_at s place + 0 ≡ low_at s place
     plus = omega arith
 
-pub choice_listed : (s : SpaceContent) (m reached : Machine) (place k : ℕ) (old now new : List Arrival) → k < length s.choices → reached ≡ after_choice s m k → new ≡ now ++ arrival_at reached place k ∷ []
-    → ListsSome s m place k old now → ListsSome s m place (k + 1) old new
+    sum : length old ≡ length old + 0
+    sum = omega arith
+
+pub choice_listed : (s : SpaceContent) (m reached : Machine) (place k : ℕ) (old now new : List Arrival) → k < count_at s place → reached ≡ after_choice s m (low_at s place + k)
+    → new ≡ now ++ arrival_at reached place (low_at s place + k) ∷ [] → ListsSome s m place k old now → ListsSome s m place (k + 1) old new
 choice_listed s m reached place k old now new lt at is h = record {
   adds = λ next.
-      choice_added s m reached place k (length s.choices) (insert_all are_same_arrivals next now) (insert_all are_same_arrivals next new)
-      (insert_all are_same_arrivals (insert_all are_same_arrivals next old) (arrivals_from s m place 0 (length s.choices))) lt at
-      (ap (insert_all are_same_arrivals next) is ∙ insert_push next now (arrival_at reached place k)) (h.adds next);
-  count = omega (arith, ap length is, length_push now (arrival_at reached place k), h.count);
+      choice_added s m reached place (low_at s place) k (count_at s place) (insert_all are_same_arrivals next now) (insert_all are_same_arrivals next new)
+      (insert_all are_same_arrivals (insert_all are_same_arrivals next old) (arrivals_from s m place (low_at s place) (count_at s place))) lt at
+      (ap (insert_all are_same_arrivals next) is ∙ insert_push next now (arrival_at reached place (low_at s place + k))) (h.adds next);
+  count = omega (arith, ap length is, length_push now (arrival_at reached place (low_at s place + k)), h.count);
 }
 
-pub first_listed : (s : SpaceContent) (m reached : Machine) (place : ℕ) (old new : List Arrival) → 0 < length s.choices → reached ≡ after_choice s m 0 → new ≡ old ++ arrival_at reached place 0 ∷ []
-    → ListsSome s m place 1 old new
-first_listed s m reached place old new some at is = choice_listed s m reached place 0 old old new some at is (lists_first s m place old)
+pub first_listed : (s : SpaceContent) (m reached : Machine) (place : ℕ) (old new : List Arrival) → 0 < count_at s place → reached ≡ after_choice s m (low_at s place)
+    → new ≡ old ++ arrival_at reached place (low_at s place) ∷ [] → ListsSome s m place 1 old new
+first_listed s m reached place old new some at is =
+    choice_listed s m reached place 0 old old new some (at ∙ ap (after_choice s m) plus) (is ∙ ap (λ (k : ℕ). old ++ arrival_at reached place k ∷ []) plus) (lists_first s m place old)
+  where
+    plus : low_at s place ≡ low_at s place + 0
+    plus = omega arith
 
-pub all_listed : (s : SpaceContent) (m : Machine) (place k : ℕ) (old new : List Arrival) → is_some m.halt ≡ false → k ≡ length s.choices → tried s m ≡ length s.choices → ListsSome s m place k old new
+pub all_listed : (s : SpaceContent) (m : Machine) (place k : ℕ) (old new : List Arrival) → is_some m.halt ≡ false → k ≡ count_at s place → tried s place m ≡ count_at s place → ListsSome s m place k old new
     → ListsOneMore s m place old new
 all_listed s m place k old new live all tries h = record {
   adds = λ next.
-      sym (choices_none s m place (length s.choices) (insert_all are_same_arrivals next new))
-      ∙ subst (λ (n : ℕ). insert_all are_same_arrivals (insert_all are_same_arrivals next new) (arrivals_from s m place n (length s.choices - n))
-      ≡ insert_all are_same_arrivals (insert_all are_same_arrivals next old) (arrivals_from s m place 0 (length s.choices))) all (h.adds next)
-      ∙ ap (insert_all are_same_arrivals (insert_all are_same_arrivals next old)) (sym (goes_on m.halt (arrivals_from s m place 0 (length s.choices)) live));
+      sym (choices_none s m place (low_at s place + count_at s place) (count_at s place) (insert_all are_same_arrivals next new))
+      ∙ subst (λ (n : ℕ). insert_all are_same_arrivals (insert_all are_same_arrivals next new) (arrivals_from s m place (low_at s place + n) (count_at s place - n))
+      ≡ insert_all are_same_arrivals (insert_all are_same_arrivals next old) (arrivals_from s m place (low_at s place) (count_at s place))) all (h.adds next)
+      ∙ ap (insert_all are_same_arrivals (insert_all are_same_arrivals next old)) (sym (goes_on m.halt (arrivals_from s m place (low_at s place) (count_at s place)) live));
   count = h.count ∙ ap (λ (n : ℕ). length old + n) (all ∙ sym tries);
 }
 
-pub alike_listed : (s : SpaceContent) (m reached : Machine) (place : ℕ) (old new : List Arrival) → is_some m.halt ≡ false → 0 < length s.choices → reached ≡ after_choice s m 0 → new ≡ old ++ arrival_at reached place 0 ∷ []
-    → ((j : ℕ) → after_choice s m j ≡ reached) → tried s m ≡ min 1 (length s.choices) → ListsOneMore s m place old new
+pub alike_listed : (s : SpaceContent) (m reached : Machine) (place : ℕ) (old new : List Arrival) → is_some m.halt ≡ false → 0 < count_at s place → reached ≡ after_choice s m (low_at s place)
+    → new ≡ old ++ arrival_at reached place (low_at s place) ∷ [] → ((j : ℕ) → after_choice s m j ≡ reached) → tried s place m ≡ min 1 (count_at s place) → ListsOneMore s m place old new
 alike_listed s m reached place old new live some at is alike tries = record {
   adds = λ next.
-      first_adds_all s m reached place (length s.choices) (insert_all are_same_arrivals next old) (insert_all are_same_arrivals next new) some at
-      (ap (insert_all are_same_arrivals next) is ∙ insert_push next old (arrival_at reached place 0)) alike
-      ∙ ap (insert_all are_same_arrivals (insert_all are_same_arrivals next old)) (sym (goes_on m.halt (arrivals_from s m place 0 (length s.choices)) live));
-  count = omega (arith, ap length is, length_push old (arrival_at reached place 0), tries);
+      first_adds_all s m reached place (low_at s place) (count_at s place) (insert_all are_same_arrivals next old) (insert_all are_same_arrivals next new) some at
+      (ap (insert_all are_same_arrivals next) is ∙ insert_push next old (arrival_at reached place (low_at s place))) alike
+      ∙ ap (insert_all are_same_arrivals (insert_all are_same_arrivals next old)) (sym (goes_on m.halt (arrivals_from s m place (low_at s place) (count_at s place)) live));
+  count = omega (arith, ap length is, length_push old (arrival_at reached place (low_at s place)), tries);
 }
 
 -- no choice, or a halted machine
-pub nothing_listed : (s : SpaceContent) (m : Machine) (place : ℕ) (old : List Arrival) → (length s.choices ≡ 0) ⊎ (is_some m.halt ≡ true) → ListsOneMore s m place old old
+pub nothing_listed : (s : SpaceContent) (m : Machine) (place : ℕ) (old : List Arrival) → (count_at s place ≡ 0) ⊎ (is_some m.halt ≡ true) → ListsOneMore s m place old old
 nothing_listed s m place old why = record {
   adds = λ next. ap (insert_all are_same_arrivals (insert_all are_same_arrivals next old)) (sym (none why));
   count = omega (arith, zero_tried why);
 }
   where
-    no_choices : (h : Option Halt) (n : ℕ) → n ≡ 0 → unless_halted h (arrivals_from s m place 0 n) [] ≡ []
-    no_choices None n e = ap (arrivals_from s m place 0) e
+    no_choices : (h : Option Halt) (n : ℕ) → n ≡ 0 → unless_halted h (arrivals_from s m place (low_at s place) n) [] ≡ []
+    no_choices None n e = ap (arrivals_from s m place (low_at s place)) e
     no_choices (Some x) n e = refl
 
-    none : (length s.choices ≡ 0) ⊎ (is_some m.halt ≡ true) → arrivals_of s m place ≡ []
-    none (inl e) = no_choices m.halt (length s.choices) e
-    none (inr e) = halted_none m.halt (arrivals_from s m place 0 (length s.choices)) e
-
-    least : (b : Bool) (n : ℕ) → n ≡ 0 → (if b then min 1 n else n) ≡ 0
-    least true n e = omega arith
-    least false n e = e
+    none : (count_at s place ≡ 0) ⊎ (is_some m.halt ≡ true) → arrivals_of s m place ≡ []
+    none (inl e) = no_choices m.halt (count_at s place) e
+    none (inr e) = halted_none m.halt (arrivals_from s m place (low_at s place) (count_at s place)) e
 
     no_tries : (h : Option Halt) (n : ℕ) → n ≡ 0 → unless_halted h n 0 ≡ 0
     no_tries None n e = e
     no_tries (Some x) n e = refl
 
-    zero_tried : (length s.choices ≡ 0) ⊎ (is_some m.halt ≡ true) → tried s m ≡ 0
+    zero_tried : (count_at s place ≡ 0) ⊎ (is_some m.halt ≡ true) → tried s place m ≡ 0
     zero_tried (inl e) =
-        no_tries m.halt (if are_lag_frames s.cart m (slice_index_or s.choices 0 no_input) s.hold then min 1 (length s.choices) else length s.choices)
-        (least (are_lag_frames s.cart m (slice_index_or s.choices 0 no_input) s.hold) (length s.choices) e)
-    zero_tried (inr e) = halted_tries s m e
+        no_tries m.halt (length (played_of s m (next_choices s place))) (ap (λ (n : ℕ). length (played_of s m (range_with_len (low_at s place) n))) e)
+    zero_tried (inr e) = halted_tries s place m e
+
+-- ---- each machine once
+
+-- an arrival's machine is among those of some
+abbrev Knows : List Arrival → Arrival → Type 0
+Knows ks a = list_any (are_same_arrivals a) ks ≡ true
+
+or_true : (b : Bool) → (b || true) ≡ true
+or_true true = refl
+or_true false = refl
+
+known_push : (ks : List Arrival) (x a : Arrival) → Knows ks a → Knows (ks ++ x ∷ []) a
+known_push ks x a h = list_any-append (are_same_arrivals a) ks (x ∷ []) ∙ ap (λ (b : Bool). b || list_any (are_same_arrivals a) (x ∷ [])) h
+
+known_key : (ks : List Arrival) (x a : Arrival) → Knows ks a → Knows (insert_key are_same_arrivals ks x) a
+known_key ks x a h = split (list_any (are_same_arrivals x) ks)
+  where
+    split : (b : Bool) → Knows (if b then ks else ks ++ x ∷ []) a
+    split true = h
+    split false = known_push ks x a h
+
+known_all : (bs ks : List Arrival) (a : Arrival) → Knows ks a → Knows (insert_all are_same_arrivals ks bs) a
+known_all [] ks a h = h
+known_all (x ∷ bs) ks a h = known_all bs (insert_key are_same_arrivals ks x) a (known_key ks x a h)
+
+known_self : (ks : List Arrival) (x : Arrival) → Knows (insert_key are_same_arrivals ks x) x
+known_self ks x = split (list_any (are_same_arrivals x) ks) refl
+  where
+    split : (b : Bool) → list_any (are_same_arrivals x) ks ≡ b → Knows (if b then ks else ks ++ x ∷ []) x
+    split true e = e
+    split false e =
+        list_any-append (are_same_arrivals x) ks (x ∷ [])
+        ∙ ap (λ (b : Bool). list_any (are_same_arrivals x) ks || (b || false)) ((machines_decide x.state x.state).1 refl)
+        ∙ or_true (list_any (are_same_arrivals x) ks)
+
+known_same : (ks : List Arrival) (a b : Arrival) → a.state ≡ b.state → Knows ks b → Knows ks a
+known_same ks a b e h = subst (λ (m : Machine). list_any (λ o. are_same_machines m o.state) ks ≡ true) (sym e) h
+
+-- what is among some is among what these make of others
+known_member : (ks next : List Arrival) (a : Arrival) → Knows ks a → Knows (insert_all are_same_arrivals next ks) a
+known_member [] next a h = absurd cc
+known_member (x ∷ ks) next a h = split (are_same_machines a.state x.state) refl (known_member ks (insert_key are_same_arrivals next x) a)
+  where
+    tail : (b : Bool) → b ≡ false → (b || list_any (are_same_arrivals a) ks) ≡ true → Knows ks a
+    tail true e h = absurd cc
+    tail false e h = h
+
+    split : (b : Bool) → are_same_machines a.state x.state ≡ b → (Knows ks a → Knows (insert_all are_same_arrivals (insert_key are_same_arrivals next x) ks) a)
+        → Knows (insert_all are_same_arrivals (insert_key are_same_arrivals next x) ks) a
+    split true e more =
+        known_same (insert_all are_same_arrivals (insert_key are_same_arrivals next x) ks) a x ((machines_decide a.state x.state).0 e)
+        (known_all ks (insert_key are_same_arrivals next x) x (known_self next x))
+    split false e more = more (tail (are_same_machines a.state x.state) e h)
+
+-- one more, put in before or after
+push_inside : (ks next : List Arrival) (a : Arrival) → insert_all are_same_arrivals next (insert_key are_same_arrivals ks a) ≡ insert_key are_same_arrivals (insert_all are_same_arrivals next ks) a
+push_inside ks next a = split (list_any (are_same_arrivals a) ks) refl
+  where
+    split : (b : Bool) → list_any (are_same_arrivals a) ks ≡ b → insert_all are_same_arrivals next (if b then ks else ks ++ a ∷ []) ≡ insert_key are_same_arrivals (insert_all are_same_arrivals next ks) a
+    split true e =
+        ap (λ (b : Bool). if b then insert_all are_same_arrivals next ks else insert_all are_same_arrivals next ks ++ a ∷ []) (sym (known_member ks next a e))
+    split false e = insert_push next ks a
+
+all_inside : (list ks next : List Arrival) → insert_all are_same_arrivals next (insert_all are_same_arrivals ks list) ≡ insert_all are_same_arrivals (insert_all are_same_arrivals next ks) list
+all_inside [] ks next = refl
+all_inside (a ∷ list) ks next = all_inside list (insert_key are_same_arrivals ks a) next ∙ ap (λ (xs : List Arrival). insert_all are_same_arrivals xs list) (push_inside ks next a)
+
+-- what a worker lists may as well be put into a set first
+pub finds_are : (s : SpaceContent) (place : ℕ) (bs list none found : List Arrival) → Lists s place bs list → none ≡ [] → found ≡ insert_all are_same_arrivals none list → Finds s place bs found (length list)
+finds_are s place bs list none found h empty is = record {
+  adds = λ next.
+      ap (insert_all are_same_arrivals next) (is ∙ ap (λ (ks : List Arrival). insert_all are_same_arrivals ks list) empty)
+      ∙ all_inside list [] next
+      ∙ h.adds next;
+  count = h.count;
+}
 
 -- ---- blocks
 
@@ -171,22 +293,22 @@ member (x ∷ xs) (suc k) lt = member xs k (omega arith)
 -- the first k parts are put into a layer: what the stretches that they are of reach
 pub parts_grow : {Z : Type 0} (s : SpaceContent) (place size k : ℕ) (bs old : List Arrival) (parts : List (Part Z)) → AreParts s place size bs parts → k ≤ length parts
     → ((i : ℕ) (d : Part Z) → i < k → (slice_index_or parts i d).whole ≡ true)
-    → (with_parts old (take k parts) ≡ grown_arrivals s old place (take (k * size) bs)) × (listed_of (take k parts) ≡ tried_of s (take (k * size) bs))
-parts_grow s place size zero bs old parts are le whole = (ap (λ (n : ℕ). grown_arrivals s old place (take n bs)) none, ap (λ (n : ℕ). tried_of s (take n bs)) none)
+    → (with_parts old (take k parts) ≡ grown_arrivals s old place (take (k * size) bs)) × (listed_of (take k parts) ≡ tried_of s place (take (k * size) bs))
+parts_grow s place size zero bs old parts are le whole = (ap (λ (n : ℕ). grown_arrivals s old place (take n bs)) none, ap (λ (n : ℕ). tried_of s place (take n bs)) none)
   where
     none : 0 ≡ 0 * size
     none = omega arith
 parts_grow {Z} s place size (suc k) bs old parts are le whole =
     let before = parts_grow s place size k bs old parts are (omega arith) (λ i d lt. whole i d (omega arith)) in
     let found = member parts k (omega arith) in
-    let one : Lists s (place + k * size) (stretch_at bs size k) found.0.list.items =
-    subst (λ (p : Part Z). Lists s (place + k * size) (stretch_at bs size k) p.list.items) (sym found.1) (are.each k found.0 (omega arith) (whole k found.0 (omega arith))) in
+    let one : Finds s (place + k * size) (stretch_at bs size k) found.0.found.keys found.0.tried =
+    subst (λ (p : Part Z). Finds s (place + k * size) (stretch_at bs size k) p.found.keys p.tried) (sym found.1) (are.each k found.0 (omega arith) (whole k found.0 (omega arith))) in
     let parts_are : take (suc k) parts ≡ take k parts ++ found.0 ∷ [] = next_part parts k found.0 (omega arith) found.1 in
     let arrivals_are : take (suc k * size) bs ≡ take (k * size) bs ++ stretch_at bs size k = ap (λ (n : ℕ). take n bs) (row k size) ∙ take-add (k * size) size bs in
     let count : place + length (take (k * size) bs) ≡ place + k * size = ap (λ (n : ℕ). place + n) (whole_front k size bs (are.within k (omega arith))) in (
       ap (with_parts old) parts_are
-          ∙ fold_push (λ (ks : List Arrival) (p : Part Z). insert_all are_same_arrivals ks p.list.items) old (take k parts) found.0
-          ∙ ap (λ (ks : List Arrival). insert_all are_same_arrivals ks found.0.list.items) before.0
+          ∙ fold_push (λ (ks : List Arrival) (p : Part Z). insert_all are_same_arrivals ks p.found.keys) old (take k parts) found.0
+          ∙ ap (λ (ks : List Arrival). insert_all are_same_arrivals ks found.0.found.keys) before.0
           ∙ one.adds (grown_arrivals s old place (take (k * size) bs))
           ∙ ap (λ (n : ℕ). grown_arrivals s (grown_arrivals s old place (take (k * size) bs)) n (stretch_at bs size k)) (sym count)
           ∙ sym (grown_append s (take (k * size) bs) (stretch_at bs size k) old place)
@@ -194,12 +316,13 @@ parts_grow {Z} s place size (suc k) bs old parts are le whole =
       omega (
         arith,
         ap listed_of parts_are,
-        sum_by-append (λ (p : Part Z). length p.list.items) (take k parts) (found.0 ∷ []),
-        sum_by-cons (λ (p : Part Z). length p.list.items) found.0 [],
+        sum_by-append (λ (p : Part Z). p.tried) (take k parts) (found.0 ∷ []),
+        sum_by-cons (λ (p : Part Z). p.tried) found.0 [],
         before.1,
         one.count,
-        tried_append s (take (k * size) bs) (stretch_at bs size k),
-        ap (tried_of s) arrivals_are,
+        tried_append s place (take (k * size) bs) (stretch_at bs size k),
+        ap (λ (n : ℕ). tried_of s n (stretch_at bs size k)) count,
+        ap (tried_of s place) arrivals_are,
       ),
     )
   where
@@ -223,7 +346,7 @@ block_grows s place size bs old new parts count count' most true are h =
     let parts_are : take (length parts) parts ≡ parts = take_all (length parts) parts (omega arith) in
     let bs_are : take (length parts * size) bs ≡ bs = take_all (length parts * size) bs are.all in (
       h.0.keys ∙ all.0 ∙ ap (grown_arrivals s old place) bs_are,
-      h.1 ∙ ap (λ (n : ℕ). count + n) (ap listed_of (sym parts_are) ∙ all.1 ∙ ap (tried_of s) bs_are),
+      h.1 ∙ ap (λ (n : ℕ). count + n) (ap listed_of (sym parts_are) ∙ all.1 ∙ ap (tried_of s place) bs_are),
       h.2,
     )
 block_grows s place size bs old new parts count count' most false are h =
@@ -233,8 +356,8 @@ block_grows s place size bs old new parts count count' most false are h =
 
 -- a block after those before it
 pub blocks_grow : (s : SpaceContent) (place at end most : ℕ) (bs block now new : List Arrival) (count count' : ℕ) → at ≤ end → end ≤ length bs → block ≡ take (end - at) (drop at bs)
-    → now ≡ grown_arrivals s [] place (take at bs) → count ≡ tried_of s (take at bs) → GrowsBy s (place + at) block now count new count' most true
-    → (new ≡ grown_arrivals s [] place (take end bs)) × (count' ≡ tried_of s (take end bs)) × (length new ≤ most)
+    → now ≡ grown_arrivals s [] place (take at bs) → count ≡ tried_of s place (take at bs) → GrowsBy s (place + at) block now count new count' most true
+    → (new ≡ grown_arrivals s [] place (take end bs)) × (count' ≡ tried_of s place (take end bs)) × (length new ≤ most)
 blocks_grow s place at end most bs block now new count count' from to is keys counted h =
     let whole : length (take at bs) ≡ at = omega (arith, length-take at bs) in
     let all : take end bs ≡ take at bs ++ block =
@@ -244,7 +367,11 @@ blocks_grow s place at end most bs block now new count count' from to is keys co
           ∙ ap (λ (n : ℕ). grown_arrivals s (grown_arrivals s [] place (take at bs)) (place + n) block) (sym whole)
           ∙ sym (grown_append s (take at bs) block [] place)
           ∙ ap (grown_arrivals s [] place) (sym all),
-      h.1 ∙ ap (λ (n : ℕ). n + tried_of s block) counted ∙ sym (tried_append s (take at bs) block) ∙ ap (tried_of s) (sym all),
+      h.1
+          ∙ ap (λ (n : ℕ). n + tried_of s (place + at) block) counted
+          ∙ ap (λ (n : ℕ). tried_of s place (take at bs) + tried_of s (place + n) block) (sym whole)
+          ∙ sym (tried_append s place (take at bs) block)
+          ∙ ap (tried_of s place) (sym all),
       h.2,
     )
   where
@@ -286,7 +413,7 @@ pub no_parts : {Z : Type 0} (parts : List (Part Z)) (old : List Arrival) → Tak
 no_parts parts old = record { within = omega arith; whole = λ i d lt. absurd (omega arith); keys = refl }
 
 pub first_parts : {Z : Type 0} (parts : List (Part Z)) (old now new : List Arrival) (k : ℕ) (p : Part Z) → k < length parts → p ≡ get_or parts k p → p.whole ≡ true
-    → new ≡ insert_all are_same_arrivals now p.list.items → TakesFirst parts old now k → TakesFirst parts old new (k + 1)
+    → new ≡ insert_all are_same_arrivals now p.found.keys → TakesFirst parts old now k → TakesFirst parts old new (k + 1)
 first_parts {Z} parts old now new k p lt is whole keys h = record {
   within = omega arith;
   whole = λ i d less.
@@ -295,8 +422,8 @@ first_parts {Z} parts old now new k p lt is whole keys h = record {
         | inr after ↦ subst (λ (n : ℕ). (slice_index_or parts n d).whole ≡ true) (here i after less) (ap (λ (q : Part Z). q.whole) (sym (element d)) ∙ whole)
       ];
   keys = keys
-      ∙ ap (λ (ks : List Arrival). insert_all are_same_arrivals ks p.list.items) h.keys
-      ∙ sym (fold_push (λ (ks : List Arrival) (q : Part Z). insert_all are_same_arrivals ks q.list.items) old (take k parts) p)
+      ∙ ap (λ (ks : List Arrival). insert_all are_same_arrivals ks p.found.keys) h.keys
+      ∙ sym (fold_push (λ (ks : List Arrival) (q : Part Z). insert_all are_same_arrivals ks q.found.keys) old (take k parts) p)
       ∙ ap (with_parts old) taken;
 }
   where
@@ -309,7 +436,7 @@ first_parts {Z} parts old now new k p lt is whole keys h = record {
     taken : take k parts ++ p ∷ [] ≡ take (k + 1) parts
     taken = ap (λ (x : Part Z). take k parts ++ x ∷ []) is ∙ sym (take_more parts k p lt)
 
-pub one_part_counts : {Z : Type 0} (parts : List (Part Z)) (k : ℕ) (p : Part Z) (old now new : ℕ) → k < length parts → p ≡ get_or parts k p → new ≡ now + length p.list.items → now ≡ old + listed_of (take k parts)
+pub one_part_counts : {Z : Type 0} (parts : List (Part Z)) (k : ℕ) (p : Part Z) (old now new : ℕ) → k < length parts → p ≡ get_or parts k p → new ≡ now + p.tried → now ≡ old + listed_of (take k parts)
     → new ≡ old + listed_of (take (k + 1) parts)
 one_part_counts {Z} parts k p old now new lt is e h =
     omega (
@@ -317,8 +444,8 @@ one_part_counts {Z} parts k p old now new lt is e h =
       e,
       h,
       ap listed_of taken,
-      sum_by-append (λ (q : Part Z). length q.list.items) (take k parts) (p ∷ []),
-      sum_by-cons (λ (q : Part Z). length q.list.items) p [],
+      sum_by-append (λ (q : Part Z). q.tried) (take k parts) (p ∷ []),
+      sum_by-cons (λ (q : Part Z). q.tried) p [],
     )
   where
     taken : take (k + 1) parts ≡ take k parts ++ p ∷ []

@@ -1,5 +1,5 @@
 -- What layers have: of each machine that sequences of their length reach one, with the first of these.
-use Rattle.std.proofs.Common.{◌≡◌, ℕ, zero, suc, ◌+◌, ◌*◌, ◌<◌, ◌≤◌, Bool, true, false, List, [], ◌∷◌, ◌++◌, length, Option, Some, None, refl, sym, ap, subst, ◌∙◌, inl, inr, arith, add-one}
+use Rattle.std.proofs.Common.{◌≡◌, ℕ, zero, suc, ◌+◌, ◌-◌, ◌*◌, ◌<◌, ◌≤◌, Bool, true, false, List, [], ◌∷◌, ◌++◌, length, Option, Some, None, refl, sym, ap, subst, ◌∙◌, inl, inr, arith}
 use Rattle.std.specs.Prelude.{◌⊎◌, ◌||◌, if◌then◌else◌}
 use Rattle.std.specs.List.{list_any}
 use Rattle.std.proofs.lemmas.Bool.{cases_eq}
@@ -7,8 +7,8 @@ use Rattle.std.proofs.Math.Nat.{mul-le-mul_right}
 use Rattle.vcs_cpu.specs.declared.halt.Halt.{Halt}
 use Rattle.vcs_machine.specs.Equality.{are_same_machines, machines_decide}
 use Rattle.vcs_machine.specs.Machine.{Machine, unless_halted}
-use Rattle.tas_search.specs.Space.{SpaceContent, after_choice, reached_from, reached, AreChoices, rank_from, rank}
-use Rattle.tas_search.specs.Inside.Layers.{Reached, with_reached, with_all, next_reached, next_from, next_of, grown_from, grown, layers_from, root, layer_of}
+use Rattle.tas_search.specs.Space.{SpaceContent, after_choice, reached_from, reached, AreNumbers, AreChoices, rank_from, rank}
+use Rattle.tas_search.specs.Inside.Layers.{Reached, with_reached, with_all, next_reached, next_from, next_of, grown_from, grown, layers_from, root, first_of, first_layer, layer_of}
 
 -- ---- ranks
 
@@ -240,8 +240,8 @@ module _ (s : SpaceContent) where
   layers_ascend zero layer h = h
   layers_ascend (suc d) layer h = layers_ascend d (grown s layer) (next_layer_ascends layer h)
 
-  -- every sequence's machine is in its layer, by a sequence that is no later
-  pub layers_cover : (ks : List ℕ) (layer : List Reached) (m n : Machine) (q : ℕ) → Ascends 0 layer → Covers layer m q → AreChoices s ks
+  -- what goes on from a machine that a layer covers is in the layers after it
+  pub layers_cover : (ks : List ℕ) (layer : List Reached) (m n : Machine) (q : ℕ) → Ascends 0 layer → Covers layer m q → AreNumbers s ks
       → reached_from s m ks ≡ Some n → Covers (layers_from s layer (length ks)) n (rank_from (length s.choices) q ks)
   unfolding layers_from
   layers_cover [] layer m n q h c are e = subst (λ (x : Machine). Covers layer x q) (some_is m n e) c
@@ -255,11 +255,41 @@ module _ (s : SpaceContent) where
         | inr x ↦ absurd (none_some n (sym (ap (λ (y : Option Halt). unless_halted y (reached_from s (after_choice s m k) ks) None) x.1) ∙ e))
       ]
 
+  -- ---- the first choices
+
+  first_goes : s.start.halt ≡ None → first_of s ≡ next_from s (root s) s.low (s.high - s.low)
+  first_goes e = ap (λ (h : Option Halt). unless_halted h (next_from s (root s) s.low (s.high - s.low)) []) e
+
+  first_stops : (x : Halt) → s.start.halt ≡ Some x → first_of s ≡ []
+  first_stops x e = ap (λ (h : Option Halt). unless_halted h (next_from s (root s) s.low (s.high - s.low)) []) e
+
+  first_ascends : Ascends 0 (first_layer s)
+  first_ascends =
+      elim (halt_cases s.start.halt) [
+        | inl e ↦ subst (λ (cs : List Reached). Ascends 0 (with_all [] cs)) (sym (first_goes e)) (next_ascends (s.high - s.low) s.low [] (root s) tt tt)
+        | inr x ↦ subst (λ (cs : List Reached). Ascends 0 (with_all [] cs)) (sym (first_stops x.0 x.1)) tt
+      ]
+
+  first_covers : (j : ℕ) → s.start.halt ≡ None → s.low ≤ j → j < s.high → Covers (first_layer s) (after_choice s s.start j) (spot (root s) j)
+  first_covers j go from to =
+      subst (λ (cs : List Reached). Covers (with_all [] cs) (after_choice s s.start j) (spot (root s) j)) (sym (first_goes go))
+      (next_covers (s.high - s.low) s.low j [] (root s) tt from (omega (arith, from, to)))
+
+  -- every sequence's machine is in the layer of its length, by a sequence that is no later
   pub layer_covers : (ks : List ℕ) (n : Machine) → AreChoices s ks → reached s ks ≡ Some n → Covers (layer_of s (length ks)) n (rank s ks)
-  layer_covers ks n are e = layers_cover ks (root s ∷ []) s.start n 0 (omega arith, tt) (inl (refl, omega arith)) are e
+  layer_covers [] n are e = inl (some_is s.start n e, omega arith)
+  layer_covers (k ∷ ks) n are e =
+      elim (halt_cases s.start.halt) [
+        | inl go ↦
+            let on : reached_from s (after_choice s s.start k) ks ≡ Some n =
+            sym (ap (λ (x : Option Halt). unless_halted x (reached_from s (after_choice s s.start k) ks) None) go) ∙ e in
+            layers_cover ks (first_layer s) (after_choice s s.start k) n (spot (root s) k) first_ascends (first_covers k go are.0 are.1) are.2 on
+        | inr x ↦ absurd (none_some n (sym (ap (λ (y : Option Halt). unless_halted y (reached_from s (after_choice s s.start k) ks) None) x.1) ∙ e))
+      ]
 
   pub layer_ascends : (d : ℕ) → Ascends 0 (layer_of s d)
-  layer_ascends d = layers_ascend d (root s ∷ []) (omega arith, tt)
+  layer_ascends zero = (omega arith, tt)
+  layer_ascends (suc d) = layers_ascend d (first_layer s) first_ascends
 
   -- one layer more
   layers_suc : (d : ℕ) (layer : List Reached) → layers_from s layer (suc d) ≡ grown s (layers_from s layer d)
@@ -267,5 +297,5 @@ module _ (s : SpaceContent) where
   layers_suc zero layer = refl
   layers_suc (suc d) layer = layers_suc d (grown s layer)
 
-  pub layers_more : (d : ℕ) (layer : List Reached) → layers_from s layer (d + 1) ≡ grown s (layers_from s layer d)
-  layers_more d layer = rw add-one (layers_suc d layer)
+  pub layer_more : (d : ℕ) → layer_of s (suc (suc d)) ≡ grown s (layer_of s (suc d))
+  layer_more d = layers_suc d (first_layer s)

@@ -22,3 +22,4 @@ pub mod LogLemmas
 pub mod CountLemmas
 pub mod ReportLemmas
 pub mod PartLemmas
+pub mod SequenceLemmas

@@ -7,9 +7,9 @@ use Rattle.tas_search.specs.declared.arrival.Arrival.{Arrival}
 use Rattle.tas_search.specs.declared.arrival.Step.{Step}
 use Rattle.tas_search.specs.Space.{SpaceContent, AreChoices, reached, rank}
 use Rattle.tas_search.specs.Best.{Passes, NeedsAtLeast, AllReach, IsApart, AreApart, ReachMoreThan, FitsBelow}
-use Rattle.tas_search.specs.Inside.Layers.{Reached, grown, root, layer_of}
+use Rattle.tas_search.specs.Inside.Layers.{Reached, grown, layer_of}
 use Rattle.tas_search.specs.Inside.Arrivals.{IsFrontier}
-use Rattle.tas_search.proofs.LayerLemmas.{Covers, layer_covers, layers_more}
+use Rattle.tas_search.proofs.LayerLemmas.{Covers, layer_covers, layer_more}
 use Rattle.tas_search.proofs.ReachLemmas.{layer_length}
 
 -- ---- members
@@ -110,10 +110,13 @@ module _ (s : SpaceContent) where
   no_members (r ∷ rs) e = absurd (omega arith)
 
   empty_more : (d n : ℕ) → length (layer_of s d) ≡ 0 → length (layer_of s (d + n)) ≡ 0
-  empty_more d zero e = subst (λ (k : ℕ). length (layer_of s k) ≡ 0) (omega arith) e
-  empty_more d (suc n) e =
-      subst (λ (k : ℕ). length (layer_of s k) ≡ 0) (omega arith)
-      (ap length (layers_more s (d + n) (root s ∷ []) ∙ ap (grown s) (no_members (layer_of s (d + n)) (empty_more d n e))))
+  empty_more zero n e = absurd (omega (arith, e))
+  empty_more (suc d) zero e = let same : suc d ≡ suc d + 0 = omega arith in subst (λ (k : ℕ). length (layer_of s k) ≡ 0) same e
+  empty_more (suc d) (suc n) e =
+      let sum : suc d + n ≡ suc (d + n) = omega arith in
+      let more : suc (suc (d + n)) ≡ suc d + suc n = omega arith in
+      let before : length (layer_of s (suc (d + n))) ≡ 0 = subst (λ (k : ℕ). length (layer_of s k) ≡ 0) sum (empty_more (suc d) n e) in
+      subst (λ (k : ℕ). length (layer_of s k) ≡ 0) more (ap length (layer_more s (d + n) ∙ ap (grown s) (no_members (layer_of s (suc (d + n))) before)))
 
   empty_after : (d k : ℕ) → length (layer_of s d) ≡ 0 → d ≤ k → length (layer_of s k) ≡ 0
   empty_after d k e le = subst (λ (n : ℕ). length (layer_of s n) ≡ 0) (omega arith) (empty_more d (k - d) e)

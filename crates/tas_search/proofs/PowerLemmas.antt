@@ -7,7 +7,7 @@ use Rattle.std.proofs.lemmas.Int.Digits.{digits_value_push, digits_push}
 use Rattle.std.proofs.lemmas.Str.{digit_value_digit}
 use Rattle.std.proofs.lemmas.Str.Parse.{digit_at}
 use Rattle.std.proofs.lemmas.Bool.{cases_eq}
-use Rattle.std.proofs.Math.Nat.{mul-le-mul, mul_assoc, mul-suc, le-mul_of_pos_right, div-mul-le_self, div-add-mod, pow-zero, pow-suc, pow-succ'}
+use Rattle.std.proofs.Math.Nat.{mul_comm, mul-le-mul, mul_assoc, mul-suc, le-mul_of_pos_right, div-mul-le_self, div-add-mod, pow-zero, pow-suc, pow-succ'}
 use Rattle.std.proofs.lemmas.Nat.{pow-add}
 use Rattle.std.proofs.lemmas.List.{reverse-append, length-reverse, length-append, get_or_append_left}
 use Rattle.tas_search.specs.Power.{IsDecimal}
@@ -296,3 +296,9 @@ factor_low base factor b f = omega (arith, more)
 -- the text of digits, the highest first
 pub text_reversed : (ds text : List ℕ) (n : ℕ) → IsLow ds n → text ≡ reverse ds → IsDecimal text n
 text_reversed ds text n h e = subst (λ (xs : List ℕ). IsDecimal xs n) (sym e) (decimal_reversed ds n h)
+
+-- ---- a number of powers
+
+-- digits of a power that were multiplied
+pub times_whole : (digits product : List ℕ) (factor power : ℕ) → IsLow digits power → IsLow product (low_value digits * factor) → IsLow product (factor * power)
+times_whole digits product factor power h g = subst (IsLow product) (ap (λ (n : ℕ). n * factor) h.value ∙ mul_comm power factor) g

@@ -1,7 +1,7 @@
 -- What the layers show of the shortest sequence.
 use Rattle.std.proofs.Common.{◌≡◌, ℕ, zero, suc, ◌+◌, ◌<◌, ◌≤◌, Bool, true, false, not, List, [], ◌∷◌, ◌++◌, length, map, take, drop, get_or, cond, nat_lt, Option, Some, None, refl, sym, ap, subst, ◌∙◌, inl, inr, arith}
 use Rattle.std.specs.List.{position, position_or_len}
-use Rattle.std.proofs.lemmas.List.{map-append, length-map, take-map, take-append-drop}
+use Rattle.std.proofs.lemmas.List.{map-append, length-map, take-map, take_all, take-append-drop}
 use Rattle.std.proofs.lemmas.List.Quantifiers.{position-Some}
 use Rattle.std.proofs.lemmas.Bool.{cases_eq, ltb-false}
 use Rattle.std.proofs.Math.ListN.{get_or-map}
@@ -10,11 +10,11 @@ use Rattle.tas_search.specs.declared.arrival.Arrival.{Arrival}
 use Rattle.tas_search.specs.declared.arrival.Step.{Step}
 use Rattle.tas_search.specs.Space.{SpaceContent, reached, rank}
 use Rattle.tas_search.specs.Best.{Passes, NeedsAtLeast, IsShortest, AllReach, IsApart, AreApart, ReachMoreThan, FitsBelow}
-use Rattle.tas_search.specs.Inside.Layers.{Reached, grown_from, layer_of}
+use Rattle.tas_search.specs.Inside.Layers.{Reached, grown_from, layers_from, first_layer, layer_of}
 use Rattle.tas_search.specs.Inside.Arrivals.{grown_arrivals, no_step, path, with_path, steps_of, IsFrontier, IsOver}
 use Rattle.tas_search.proofs.LayerLemmas.{Covers, Ascends, covers_from, layer_covers, layer_ascends}
-use Rattle.tas_search.proofs.SoundLemmas.{IsRight, AreRight, IsNew, AreDifferent, right_layer, right_grown, different_grown}
-use Rattle.tas_search.proofs.ArrivalLemmas.{grown_is}
+use Rattle.tas_search.proofs.SoundLemmas.{IsRight, AreRight, IsNew, AreDifferent, right_layer, right_grown, different_grown, first_different}
+use Rattle.tas_search.proofs.ArrivalLemmas.{grown_is, next_layer_is}
 
 some_is : (x y : Machine) → ◌≡◌ {A = Option Machine} (Some x) (Some y) → x ≡ y
 some_is x y e = cc
@@ -147,24 +147,41 @@ unfolding sequences_of
 are_apart s d [] h new = tt
 are_apart s d (r ∷ rs) h new = (is_apart s d r rs h.0 h.1 new.0, are_apart s d rs h.1 new.1)
 
+-- what the first of a frontier's arrivals reach
+some_grown : (s : SpaceContent) (depth place : ℕ) (parents : List Step) (bs : List Arrival) (j : ℕ) → IsFrontier s depth place parents bs
+    → (rs : List Reached) × (map (with_path parents (suc depth)) (grown_arrivals s [] place (take j bs)) ≡ rs) × AreRight s (depth + 1) rs × AreDifferent s rs
+unfolding layers_from
+some_grown s zero zero parents bs zero frontier = ([], refl, tt, tt)
+some_grown s zero zero parents bs (suc j) frontier =
+    let one : length bs ≡ 1 = sym (layer_length s 0 0 parents bs frontier) in (
+      first_layer s,
+      ap (λ (xs : List Arrival). map (with_path parents 1) (grown_arrivals s [] 0 xs)) (take_all (suc j) bs (omega (arith, one))) ∙ next_layer_is s 0 0 parents bs frontier,
+      right_layer s 1,
+      first_different s,
+    )
+some_grown s zero (suc place) parents bs j frontier = absurd frontier.after
+some_grown s (suc depth) zero parents bs j frontier = absurd frontier.after
+some_grown s (suc depth) (suc place) parents bs j frontier =
+    let steps : drop (suc place) parents ≡ steps_of (take j bs) ++ steps_of (drop j bs) =
+    frontier.steps ∙ ap steps_of (sym (take-append-drop j bs)) ∙ map-append (λ a. a.step) (take j bs) (drop j bs) in
+    let layer : AreRight s (suc depth) (map (with_path parents (suc depth)) (take j bs)) =
+    subst (AreRight s (suc depth)) (ap (take j) (sym frontier.layer) ∙ take-map (with_path parents (suc depth)) j bs) (right_take s (suc depth) j (layer_of s (suc depth)) (right_layer s (suc depth))) in (
+      grown_from s [] (map (with_path parents (suc depth)) (take j bs)),
+      grown_is s parents (suc depth) (take j bs) [] place (steps_of (drop j bs)) steps,
+      right_grown s (map (with_path parents (suc depth)) (take j bs)) [] (suc depth) (omega arith) tt layer,
+      different_grown s (map (with_path parents (suc depth)) (take j bs)) [] tt,
+    )
+
 pub crowded : (s : SpaceContent) (depth place most : ℕ) (parents : List Step) (bs : List Arrival) → IsFrontier s depth place parents bs → IsOver s bs place most → ReachMoreThan s (depth + 1) most
 unfolding sequences_of
 crowded s depth place most parents bs frontier over =
-    let j = over.0 in
-    let steps : drop place parents ≡ steps_of (take j bs) ++ steps_of (drop j bs) =
-    frontier.steps ∙ ap steps_of (sym (take-append-drop j bs)) ∙ map-append (λ a. a.step) (take j bs) (drop j bs) in
-    let is : map (with_path parents (suc depth)) (grown_arrivals s [] place (take j bs)) ≡ grown_from s [] (map (with_path parents depth) (take j bs)) =
-    grown_is s parents depth (take j bs) [] place (steps_of (drop j bs)) steps in
-    let layer : AreRight s depth (map (with_path parents depth) (take j bs)) =
-    subst (AreRight s depth) (ap (take j) (sym frontier.layer) ∙ take-map (with_path parents depth) j bs) (right_take s depth j (layer_of s depth) (right_layer s depth)) in
-    let right : AreRight s (depth + 1) (grown_from s [] (map (with_path parents depth) (take j bs))) = right_grown s (map (with_path parents depth) (take j bs)) [] depth tt layer in
-    let apart : AreDifferent s (grown_from s [] (map (with_path parents depth) (take j bs))) = different_grown s (map (with_path parents depth) (take j bs)) [] tt in
-    let count : length (sequences_of (grown_from s [] (map (with_path parents depth) (take j bs)))) ≡ length (grown_arrivals s [] place (take j bs)) =
-    length-map (grown_from s [] (map (with_path parents depth) (take j bs))) (λ r. r.sequence) ∙ ap length (sym is) ∙ length-map (grown_arrivals s [] place (take j bs)) (with_path parents (suc depth)) in
+    let part = some_grown s depth place parents bs over.0 frontier in
+    let count : length (sequences_of part.0) ≡ length (grown_arrivals s [] place (take over.0 bs)) =
+    length-map part.0 (λ r. r.sequence) ∙ ap length (sym part.1) ∙ length-map (grown_arrivals s [] place (take over.0 bs)) (with_path parents (suc depth)) in
     record {
-      sequences = sequences_of (grown_from s [] (map (with_path parents depth) (take j bs)));
-      reach = all_reach s (depth + 1) (grown_from s [] (map (with_path parents depth) (take j bs))) right;
-      apart = are_apart s (depth + 1) (grown_from s [] (map (with_path parents depth) (take j bs))) right apart;
+      sequences = sequences_of part.0;
+      reach = all_reach s (depth + 1) part.0 part.2;
+      apart = are_apart s (depth + 1) part.0 part.2 part.3;
       more = omega (arith, count, over.1);
     }
 

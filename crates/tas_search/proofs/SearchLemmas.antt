@@ -1,6 +1,8 @@
 -- What a search of a movie has at hand for its range, its choices and its verdict.
-use Rattle.std.proofs.Common.{◌≡◌, ℕ, ◌+◌, ◌*◌, ◌/◌, ◌%◌, ◌^◌, ◌<◌, ◌≤◌, Bool, true, false, List, length, sym, subst, arith}
+use Rattle.std.proofs.Common.{◌≡◌, ℕ, ◌+◌, ◌*◌, ◌/◌, ◌%◌, ◌^◌, ◌<◌, ◌≤◌, Bool, true, false, List, length, Some, sym, subst, arith}
+use Rattle.std.proofs.lemmas.Grind.{common_steps}
 use Rattle.std.proofs.Math.Nat.{mul-le-mul, div-add-mod, mul-mod_left}
+use Rattle.std.specs.List.{position, position_or_len}
 use Rattle.vcs_inputs.specs.declared.input.Input.{Input}
 use Rattle.tas_movie.specs.Content.{MovieContent, most_inputs}
 use Rattle.tas_language.specs.declared.change.Change.{Change}
@@ -14,6 +16,13 @@ use Rattle.tas_search.specs.GoalAnswer.{IsGoalAnswer}
 use Rattle.tas_search.specs.MovieSearch.{IsMovieAnswer}
 use Rattle.tas_search.specs.SearchText.{AreGiven, Divides}
 use Rattle.tas_search.specs.Inside.Stops.{HasFrames}
+
+-- ---- the first place
+
+pub place_within : {X : Type 0} (p : X → Bool) (xs : List X) (i : ℕ) → position p xs ≡ Some i → i < length xs
+place_within p xs i e =
+    let at : position_or_len p xs ≡ i = grind (arith, common_steps) in
+    grind (arith, common_steps)
 
 -- ---- the range
 
@@ -45,4 +54,4 @@ goal_frames s Most e count states hold from (stopped k) le h = (h.1, frames_fit 
 goal_frames s Least e count states hold from (stopped k) le h = (h.1, frames_fit k count hold from h.2 le)
 
 pub stop_frames : (movie : MovieContent) (choices : List Input) (kind : GoalKind) (e : Expression) (range : SearchRange) (outcome : Outcome) (changes : List Change) → IsMovieAnswer movie choices kind e range outcome changes → HasFrames range.hold outcome
-stop_frames movie choices kind e range outcome changes h = goal_frames _ kind e range.count range.states range.hold range.from outcome h.0.2 h.1
+stop_frames movie choices kind e range outcome changes h = goal_frames _ kind e range.count range.states range.hold range.from outcome h.0.3 h.1

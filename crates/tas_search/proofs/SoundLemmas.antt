@@ -1,13 +1,13 @@
 -- What is in a layer is reached by the sequence that stands beside it, and no machine is in it twice.
-use Rattle.std.proofs.Common.{◌≡◌, ℕ, zero, suc, ◌+◌, ◌<◌, ◌≤◌, Bool, true, false, List, [], ◌∷◌, ◌++◌, length, Option, Some, None, refl, sym, ap, subst, ◌∙◌, inl, inr, arith}
+use Rattle.std.proofs.Common.{◌≡◌, ℕ, zero, suc, ◌+◌, ◌-◌, ◌<◌, ◌≤◌, Bool, true, false, List, [], ◌∷◌, ◌++◌, length, Option, Some, None, refl, sym, ap, subst, ◌∙◌, inl, inr, arith}
 use Rattle.std.specs.Prelude.{◌||◌, if◌then◌else◌}
 use Rattle.std.specs.List.{list_any}
 use Rattle.std.proofs.lemmas.List.{length_push}
 use Rattle.vcs_cpu.specs.declared.halt.Halt.{Halt}
 use Rattle.vcs_machine.specs.Equality.{are_same_machines, machines_decide}
 use Rattle.vcs_machine.specs.Machine.{Machine, unless_halted}
-use Rattle.tas_search.specs.Space.{SpaceContent, after_choice, reached_from, reached, AreChoices}
-use Rattle.tas_search.specs.Inside.Layers.{Reached, with_reached, with_all, next_reached, next_from, next_of, grown_from, grown, layers_from, root, layer_of}
+use Rattle.tas_search.specs.Space.{SpaceContent, after_choice, reached_from, reached, AreNumbers, AreChoices}
+use Rattle.tas_search.specs.Inside.Layers.{Reached, with_reached, with_all, next_reached, next_from, next_of, grown_from, grown, layers_from, root, first_of, first_layer, layer_of}
 use Rattle.tas_search.proofs.LayerLemmas.{halt_cases}
 
 some_is : (x y : Machine) → ◌≡◌ {A = Option Machine} (Some x) (Some y) → x ≡ y
@@ -33,9 +33,13 @@ module _ (s : SpaceContent) where
   AreRight d [] = Unit {0}
   AreRight d (r ∷ rs) = IsRight d r × AreRight d rs
 
-  pub choices_push : (ks : List ℕ) (k : ℕ) → AreChoices s ks → k < length s.choices → AreChoices s (ks ++ k ∷ [])
-  choices_push [] k h lt = (lt, tt)
-  choices_push (x ∷ ks) k h lt = (h.0, choices_push ks k h.1 lt)
+  numbers_push : (ks : List ℕ) (k : ℕ) → AreNumbers s ks → k < length s.choices → AreNumbers s (ks ++ k ∷ [])
+  numbers_push [] k h lt = (lt, tt)
+  numbers_push (x ∷ ks) k h lt = (h.0, numbers_push ks k h.1 lt)
+
+  pub choices_push : (ks : List ℕ) (k : ℕ) → 0 < length ks → AreChoices s ks → k < length s.choices → AreChoices s (ks ++ k ∷ [])
+  choices_push [] k some h lt = absurd (omega arith)
+  choices_push (x ∷ ks) k some h lt = (h.0, h.1, numbers_push ks k h.2 lt)
 
   pub reached_push : (ks : List ℕ) (k : ℕ) (start m : Machine) → reached_from s start ks ≡ Some m → m.halt ≡ None
       → reached_from s start (ks ++ k ∷ []) ≡ Some (after_choice s m k)
@@ -52,10 +56,10 @@ module _ (s : SpaceContent) where
         | inr h ↦ absurd (none_some m (sym (ap (λ (y : Option Halt). unless_halted y (reached_from s (after_choice s start x) ks) None) h.1) ∙ e))
       ]
 
-  pub next_right : (d : ℕ) (r : Reached) (k : ℕ) → IsRight d r → r.machine.halt ≡ None → k < length s.choices → IsRight (d + 1) (next_reached s r k)
-  next_right d r k h go lt = record {
+  pub next_right : (d : ℕ) (r : Reached) (k : ℕ) → 0 < d → IsRight d r → r.machine.halt ≡ None → k < length s.choices → IsRight (d + 1) (next_reached s r k)
+  next_right d r k some h go lt = record {
     machine = reached_push r.sequence k s.start r.machine h.machine go;
-    choices = choices_push r.sequence k h.choices lt;
+    choices = choices_push r.sequence k (omega (arith, some, h.count)) h.choices lt;
     count = length_push r.sequence k ∙ ap (λ (n : ℕ). n + 1) h.count;
   }
 
@@ -70,35 +74,54 @@ module _ (s : SpaceContent) where
       split true = hs
       split false = right_push d rs r hs h
 
-  pub right_from : (n k d : ℕ) (next : List Reached) (r : Reached) → AreRight (d + 1) next → IsRight d r → r.machine.halt ≡ None → k + n ≤ length s.choices
+  pub right_from : (n k d : ℕ) (next : List Reached) (r : Reached) → 0 < d → AreRight (d + 1) next → IsRight d r → r.machine.halt ≡ None → k + n ≤ length s.choices
       → AreRight (d + 1) (with_all next (next_from s r k n))
-  right_from zero k d next r hs h go le = hs
-  right_from (suc n) k d next r hs h go le =
-      right_from n (suc k) d (with_reached next (next_reached s r k)) r (right_with (d + 1) next (next_reached s r k) hs (next_right d r k h go (omega arith))) h go (omega arith)
+  right_from zero k d next r some hs h go le = hs
+  right_from (suc n) k d next r some hs h go le =
+      right_from n (suc k) d (with_reached next (next_reached s r k)) r some (right_with (d + 1) next (next_reached s r k) hs (next_right d r k some h go (omega arith))) h go (omega arith)
 
-  pub right_of : (d : ℕ) (next : List Reached) (r : Reached) → AreRight (d + 1) next → IsRight d r → AreRight (d + 1) (with_all next (next_of s r))
-  right_of d next r hs h =
+  pub right_of : (d : ℕ) (next : List Reached) (r : Reached) → 0 < d → AreRight (d + 1) next → IsRight d r → AreRight (d + 1) (with_all next (next_of s r))
+  right_of d next r some hs h =
       elim (halt_cases r.machine.halt) [
         | inl e ↦
             subst (λ (cs : List Reached). AreRight (d + 1) (with_all next cs)) (sym (ap (λ (x : Option Halt). unless_halted x (next_from s r 0 (length s.choices)) []) e))
-            (right_from (length s.choices) 0 d next r hs h e (omega arith))
+            (right_from (length s.choices) 0 d next r some hs h e (omega arith))
         | inr x ↦
             subst (λ (cs : List Reached). AreRight (d + 1) (with_all next cs)) (sym (ap (λ (y : Option Halt). unless_halted y (next_from s r 0 (length s.choices)) []) x.1)) hs
       ]
 
-  pub right_grown : (layer next : List Reached) (d : ℕ) → AreRight (d + 1) next → AreRight d layer → AreRight (d + 1) (grown_from s next layer)
-  right_grown [] next d hs ls = hs
-  right_grown (r ∷ rs) next d hs ls = right_grown rs (with_all next (next_of s r)) d (right_of d next r hs ls.0) ls.1
+  pub right_grown : (layer next : List Reached) (d : ℕ) → 0 < d → AreRight (d + 1) next → AreRight d layer → AreRight (d + 1) (grown_from s next layer)
+  right_grown [] next d some hs ls = hs
+  right_grown (r ∷ rs) next d some hs ls = right_grown rs (with_all next (next_of s r)) d some (right_of d next r some hs ls.0) ls.1
 
-  pub right_layers : (n d : ℕ) (layer : List Reached) → AreRight d layer → AreRight (d + n) (layers_from s layer n)
+  pub right_layers : (n d : ℕ) (layer : List Reached) → 0 < d → AreRight d layer → AreRight (d + n) (layers_from s layer n)
   unfolding layers_from
-  right_layers zero d layer h = subst (λ (k : ℕ). AreRight k layer) (omega arith) h
-  right_layers (suc n) d layer h =
-      subst (λ (k : ℕ). AreRight k (layers_from s (grown s layer) n)) (omega arith) (right_layers n (d + 1) (grown s layer) (right_grown layer [] d tt h))
+  right_layers zero d layer some h = subst (λ (k : ℕ). AreRight k layer) (omega arith) h
+  right_layers (suc n) d layer some h =
+      subst (λ (k : ℕ). AreRight k (layers_from s (grown s layer) n)) (omega arith)
+      (right_layers n (d + 1) (grown s layer) (omega arith) (right_grown layer [] d some tt h))
+
+  -- what the first choices reach, from number k on
+  first_right_from : (n k : ℕ) (next : List Reached) → AreRight 1 next → s.start.halt ≡ None → s.low ≤ k → n ≡ s.high - k → AreRight 1 (with_all next (next_from s (root s) k n))
+  first_right_from zero k next hs go le left = hs
+  first_right_from (suc n) k next hs go le left =
+      first_right_from n (suc k) (with_reached next (next_reached s (root s) k))
+      (right_with 1 next (next_reached s (root s) k) hs (record { machine = reached_push [] k s.start s.start refl go; choices = (le, omega (arith, left), tt); count = refl }))
+      go (omega (arith, le)) (omega (arith, left))
+
+  first_right : AreRight 1 (first_layer s)
+  first_right =
+      elim (halt_cases s.start.halt) [
+        | inl e ↦
+            subst (λ (cs : List Reached). AreRight 1 (with_all [] cs)) (sym (ap (λ (x : Option Halt). unless_halted x (next_from s (root s) s.low (s.high - s.low)) []) e))
+            (first_right_from (s.high - s.low) s.low [] tt e (omega arith) refl)
+        | inr x ↦
+            subst (λ (cs : List Reached). AreRight 1 (with_all [] cs)) (sym (ap (λ (y : Option Halt). unless_halted y (next_from s (root s) s.low (s.high - s.low)) []) x.1)) tt
+      ]
 
   pub right_layer : (d : ℕ) → AreRight d (layer_of s d)
-  right_layer d = subst (λ (k : ℕ). AreRight k (layer_of s d)) (omega arith)
-      (right_layers d 0 (root s ∷ []) (record { machine = refl; choices = tt; count = refl }, tt))
+  right_layer zero = (record { machine = refl; choices = tt; count = refl }, tt)
+  right_layer (suc d) = subst (λ (k : ℕ). AreRight k (layer_of s (suc d))) (omega arith) (right_layers d 1 (first_layer s) (omega arith) first_right)
 
   -- ---- no machine twice
 
@@ -143,3 +166,6 @@ module _ (s : SpaceContent) where
   pub different_grown : (layer next : List Reached) → AreDifferent next → AreDifferent (grown_from s next layer)
   different_grown [] next h = h
   different_grown (r ∷ rs) next h = different_grown rs (with_all next (next_of s r)) (different_all (next_of s r) next h)
+
+  pub first_different : AreDifferent (first_layer s)
+  first_different = different_all (first_of s) [] tt

@@ -36,13 +36,14 @@ read_inputs s read = record {
   frames = s.frames;
   hold = s.hold;
   states = s.states;
+  part = s.part;
 }
 
 -- a write of the script failed
 pub record BreaksOff (i : SearchInputs) (old new : Option (List ℕ)) (logs logs' : LogBytes) (e : SearchError) : Type 0 where
   pub script : List ℕ
-  pub report : List ℕ
-  pub text : IsSearchText i script report logs logs'
+  pub verdict : List ℕ
+  pub text : IsSearchText i script verdict logs logs'
   pub fault : RunFault
   pub is : e ≡ Run fault
   pub stops : StopsWriting old new script fault
@@ -51,11 +52,11 @@ pub record BreaksOff (i : SearchInputs) (old new : Option (List ℕ)) (logs logs
 pub record EndsWithoutAnswer (i : SearchInputs) (old new : Option (List ℕ)) (logs logs' : LogBytes) (e : SearchError) : Type 0 where
   pub fault : IsSearchError i e
   pub output : Keeps old new
-  pub report : StopsText i logs logs'
+  pub report : StopsText i e logs logs'
 
 -- the script is written, and the verdict returned, after the lines of the layers; or there is no answer; or a write of the script failed
 abbrev pub Ends : {Z : Type 0} → (Z → List ℕ) → SearchInputs → (old new : Option (List ℕ)) → (logs logs' : LogBytes) → Result Z SearchError → Type 0
-Ends said i old new logs logs' (Ok report) = (script : List ℕ) × IsSearchText i script (said report) logs logs' × Appends old new script
+Ends said i old new logs logs' (Ok verdict) = (script : List ℕ) × IsSearchText i script (said verdict) logs logs' × Appends old new script
 Ends said i old new logs logs' (Err e) = EndsWithoutAnswer i old new logs logs' e ⊎ BreaksOff i old new logs logs' e
 
 -- reading stopped, and nothing is written; or all inputs were read whole, in order, and the search ends on them

@@ -1,5 +1,5 @@
 -- What a search of a movie answers to the bytes of its inputs.
-use Rattle.std.specs.Prelude.{◌≡◌, ℕ, ◌*◌, ◌<◌, Bool, true, false, List, length, ◌⊎◌}
+use Rattle.std.specs.Prelude.{◌≡◌, ℕ, ◌*◌, ◌<◌, Bool, true, false, List, length}
 use Rattle.std.specs.List.{flat_map}
 use Rattle.vcs_inputs.specs.declared.input.Input.{Input}
 use Rattle.tas_movie.specs.Content.{MovieContent}
@@ -13,6 +13,7 @@ use Rattle.tas_search.specs.declared.goal.GoalKind.{GoalKind}
 use Rattle.tas_search.specs.declared.movie_search.SearchRange.{SearchRange}
 use Rattle.tas_search.specs.declared.search_error.SearchError.{SearchError}
 use Rattle.tas_search.specs.declared.search_request.Search.{Search}
+use Rattle.tas_search.specs.declared.space_part.SpacePart.{SpacePart}
 use Rattle.tas_search.specs.declared.answering.SearchBytes.{SearchBytes}
 use Rattle.tas_search.specs.declared.search_error.SearchError.TheVariants.{Read, Run, Choices, Names as NamesAt, Goal, Frames, Search as NotSearched, Memory}
 use Rattle.tas_search.specs.ChoicesFile.{AreChoicesOf, IsChoicesError}
@@ -22,20 +23,23 @@ use Rattle.tas_search.specs.Words.{Names}
 use Rattle.tas_search.specs.Grammar.{tree_of}
 use Rattle.tas_search.specs.GoalText.{IsGoalText, IsGoalFault}
 use Rattle.tas_search.specs.Outcome.{Outcome}
-use Rattle.tas_search.specs.MovieSearch.{IsMovieAnswer, IsSearchFault, space_of}
+use Rattle.tas_search.specs.MovieSearch.{IsMovieAnswer, IsSearchFault, StopsSearching, space_of}
 use Rattle.tas_search.specs.Verdict.{IsVerdict}
 use Rattle.tas_search.specs.Logs.{LogBytes}
-use Rattle.tas_search.specs.Reported.{IsReported, IsCutReport}
+use Rattle.tas_search.specs.Reported.{IsReported, StopsReporting}
+use Rattle.tas_search.specs.Space.{SpaceContent}
+use Rattle.tas_search.specs.declared.logs.Unfinished.TheVariants as end
 
 -- the frames are some number of choices, each held for a frame or more
 abbrev pub Divides : ℕ → ℕ → Type 0
 Divides hold frames = (0 < hold) × ((count : ℕ) × (count * hold ≡ frames))
 
 -- the range of a search of so many frames
-pub record IsRangeOf (from frames hold states : ℕ) (range : SearchRange) : Type 0 where
+pub record IsRangeOf (from frames hold states : ℕ) (part : SpacePart) (range : SearchRange) : Type 0 where
   pub from_is : range.from ≡ from
   pub hold_is : range.hold ≡ hold
   pub states_is : range.states ≡ states
+  pub part_is : range.part ≡ part
   pub some : 0 < hold
   pub count : range.count * hold ≡ frames
 
@@ -62,6 +66,7 @@ pub record SearchInputs : Type 0 where
   pub frames : ℕ
   pub hold : ℕ
   pub states : ℕ
+  pub part : SpacePart
 
 -- the text is that of a goal over the names
 pub record IsGoalOver (names goal : List ℕ) (kind : GoalKind) (e : Expression) : Type 0 where
@@ -80,15 +85,15 @@ pub record Said (i : SearchInputs) (movie : MovieContent) (inputs : List Input) 
   pub movie_is : IsMovieOf i.image i.movie movie
   pub choices_are : AreGiven i.has_choices i.choices inputs
   pub goal_is : IsGoalOver i.names i.goal kind e
-  pub range_is : IsRangeOf i.from i.frames i.hold i.states range
+  pub range_is : IsRangeOf i.from i.frames i.hold i.states i.part range
 
--- the script and the verdict of what the definitions say of the whole space, and the lines of its layers
-pub record IsFoundText (movie : MovieContent) (inputs : List Input) (kind : GoalKind) (e : Expression) (range : SearchRange) (script report : List ℕ) (old new : LogBytes) : Type 0 where
+-- the script and the verdict of what the definitions say of the whole part, and the lines of its layers
+pub record IsFoundText (movie : MovieContent) (inputs : List Input) (kind : GoalKind) (e : Expression) (range : SearchRange) (script verdict : List ℕ) (old new : LogBytes) : Type 0 where
   pub outcome : Outcome
   pub changes : List Change
   pub answer : IsMovieAnswer movie inputs kind e range outcome changes
   pub script_is : script ≡ flat_map change_line changes
-  pub report_is : IsVerdict kind range (length inputs) outcome report
+  pub verdict_is : IsVerdict kind range (length inputs) outcome verdict
   pub reported : IsReported (space_of movie inputs range) range.count outcome old new
 
 -- why there is none, of a movie and a range
@@ -98,14 +103,14 @@ IsFoundError movie range Memory = Unit {0}
 IsFoundError movie range _ = ⊥
 
 -- the same of what the inputs say
-pub record IsSearchText (i : SearchInputs) (script report : List ℕ) (old new : LogBytes) : Type 0 where
+pub record IsSearchText (i : SearchInputs) (script verdict : List ℕ) (old new : LogBytes) : Type 0 where
   pub movie : MovieContent
   pub inputs : List Input
   pub kind : GoalKind
   pub e : Expression
   pub range : SearchRange
   pub said : Said i movie inputs kind e range
-  pub found : IsFoundText movie inputs kind e range script report old new
+  pub found : IsFoundText movie inputs kind e range script verdict old new
 
 -- why there is none: the first of the movie, the choices, the names, the goal, the frames and the space that is at fault; out of memory is a
 -- fault only of a cartridge that has the size of one
@@ -120,18 +125,27 @@ IsSearchError i Frames =
 IsSearchError i (NotSearched fault) = (movie : MovieContent) × (inputs : List Input) × (kind : GoalKind) × (e : Expression) × (range : SearchRange) × Said i movie inputs kind e range × IsSearchFault movie range fault
 IsSearchError i Memory = (movie : MovieContent) × (inputs : List Input) × (kind : GoalKind) × (e : Expression) × (range : SearchRange) × Said i movie inputs kind e range
 
--- what is in the report without an answer: nothing more, or the first bytes of the lines of what the inputs say
-pub record StopsSaid (i : SearchInputs) (old new : LogBytes) : Type 0 where
+-- what is in the report without an answer, of a space: what its search left; the lines of its layers, where there was no memory for the answer's texts
+abbrev pub IsCutReport : SpaceContent → SearchRange → SearchError → (old new : LogBytes) → Type 0
+IsCutReport s range (NotSearched fault) old new = StopsSearching s range old new fault
+IsCutReport s range Memory old new = StopsReporting s range.count range.states end.Memory old new
+IsCutReport s range _ old new = ⊥
+
+-- the same of what the inputs say
+pub record StopsSaid (i : SearchInputs) (error : SearchError) (old new : LogBytes) : Type 0 where
   pub movie : MovieContent
   pub inputs : List Input
   pub kind : GoalKind
   pub e : Expression
   pub range : SearchRange
   pub said : Said i movie inputs kind e range
-  pub cut : IsCutReport (space_of movie inputs range) old new
+  pub cut : IsCutReport (space_of movie inputs range) range error old new
 
-abbrev pub StopsText : SearchInputs → (old new : LogBytes) → Type 0
-StopsText i old new = (new ≡ old) ⊎ StopsSaid i old new
+-- nothing is in the report where a search doesn't begin
+abbrev pub StopsText : SearchInputs → SearchError → (old new : LogBytes) → Type 0
+StopsText i (NotSearched fault) old new = StopsSaid i (NotSearched fault) old new
+StopsText i Memory old new = StopsSaid i Memory old new
+StopsText i _ old new = new ≡ old
 
 -- the inputs of a search
 abbrev pub inputs_of : Search → SearchBytes → SearchInputs
@@ -146,4 +160,5 @@ inputs_of s b = record {
   frames = s.frames;
   hold = s.hold;
   states = s.states;
+  part = s.part;
 }

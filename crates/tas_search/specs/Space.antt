@@ -1,16 +1,19 @@
 -- What a search goes through: sequences of choices, each of which is held for some frames.
-use Rattle.std.specs.Prelude.{ℕ, zero, suc, ◌+◌, ◌*◌, ◌<◌, Bool, true, ◌&&◌, List, [], ◌∷◌, length, replicate, slice_index_or, Option, Some, None}
+use Rattle.std.specs.Prelude.{ℕ, zero, suc, ◌+◌, ◌-◌, ◌*◌, ◌<◌, ◌≤◌, Bool, true, ◌&&◌, List, [], ◌∷◌, length, replicate, slice_index_or, Option, Some, None}
 use Rattle.vcs_inputs.specs.declared.input.Input.{Input}
 use Rattle.vcs_inputs.specs.Input.{no_input}
 use Rattle.vcs_machine.specs.Machine.{Machine, after_from, frame, unless_halted}
 use Rattle.vcs_machine.specs.Lag.{is_lag_frame}
 
--- a cartridge, the machine that is started from, the choices in their order, and for how many frames each is held
+-- a cartridge, the machine that is started from, the choices in their order, and for how many frames each is held; the first choice of a sequence is one
+-- from number `low` on, up to number `high` without it
 pub record SpaceContent : Type 0 where
   pub cart : List ℕ
   pub start : Machine
   pub choices : List Input
   pub hold : ℕ
+  pub low : ℕ
+  pub high : ℕ
 
 -- the machine after choice number k was held
 abbrev pub after_choice : SpaceContent → Machine → ℕ → Machine
@@ -21,10 +24,24 @@ abbrev pub are_lag_frames : List ℕ → Machine → Input → ℕ → Bool
 are_lag_frames cart m input zero = true
 are_lag_frames cart m input (suc n) = is_lag_frame cart m input && are_lag_frames cart (frame cart m input) input n
 
--- a sequence: each of its numbers is that of a choice
+-- each of some numbers is that of a choice
+abbrev pub AreNumbers : SpaceContent → List ℕ → Type 0
+AreNumbers s [] = Unit {0}
+AreNumbers s (k ∷ ks) = (k < length s.choices) × AreNumbers s ks
+
+-- a sequence: the first of its numbers is from `low` on and below `high`, and each further one is that of any choice
 abbrev pub AreChoices : SpaceContent → List ℕ → Type 0
 AreChoices s [] = Unit {0}
-AreChoices s (k ∷ ks) = (k < length s.choices) × AreChoices s ks
+AreChoices s (k ∷ ks) = (s.low ≤ k) × (k < s.high) × AreNumbers s ks
+
+-- the least number that can stand at a place of a sequence, counted from 0, and how many can
+abbrev pub low_at : SpaceContent → ℕ → ℕ
+low_at s zero = s.low
+low_at s (suc n) = 0
+
+abbrev pub count_at : SpaceContent → ℕ → ℕ
+count_at s zero = s.high - s.low
+count_at s (suc n) = length s.choices
 
 -- the machine after a sequence, where there is one: nothing goes on after a halt
 abbrev pub reached_from : SpaceContent → Machine → List ℕ → Option Machine

@@ -1,9 +1,11 @@
 -- The verdict of a search: the line that says what was found.
-use Rattle.std.specs.Prelude.{◌≡◌, ℕ, ◌-◌, ◌*◌, ◌^◌, List, ◌++◌, codes, decimal}
+use Rattle.std.specs.Prelude.{◌≡◌, ℕ, ◌-◌, ◌*◌, ◌==◌, List, [], ◌++◌, codes, decimal, if◌then◌else◌}
 use Rattle.tas_search.specs.declared.goal.GoalKind.{GoalKind}
 use Rattle.tas_search.specs.declared.goal.GoalKind.TheVariants.{Reach, Most, Least}
 use Rattle.tas_search.specs.declared.movie_search.SearchRange.{SearchRange}
+use Rattle.tas_search.specs.declared.space_part.SpacePart.{SpacePart}
 use Rattle.tas_search.specs.Outcome.{Outcome, best, nothing, stopped}
+use Rattle.tas_search.specs.Parts.{sequence_count}
 use Rattle.tas_search.specs.Power.{IsDecimal}
 
 -- the text has the number, in decimal digits, between two others
@@ -26,8 +28,19 @@ IsNone Reach n text = IsCounted (codes "none: not one of all ") n (codes " seque
 IsNone Most n text = IsCounted (codes "none: each of all ") n (codes " sequences halts before its end\n") text
 IsNone Least n text = IsCounted (codes "none: each of all ") n (codes " sequences halts before its end\n") text
 
--- of so many choices there are as many sequences as this power says
+-- how many sequences of the longest the part has, of so many choices
+abbrev pub count_of : SearchRange → ℕ → ℕ
+count_of range choices = sequence_count range.part.number range.part.of choices range.count
+
+-- what was found, and of how many sequences
+abbrev pub IsAnswerLine : GoalKind → SearchRange → ℕ → Outcome → List ℕ → Type 0
+IsAnswerLine kind range choices (best ks) text = IsCounted (codes "best of all ") (count_of range choices) (codes " sequences\n") text
+IsAnswerLine kind range choices nothing text = IsNone kind (count_of range choices) text
+IsAnswerLine kind range choices (stopped k) text = text ≡ stop_text kind range k
+
+-- which part it is, unless it is the whole
+abbrev pub part_front : SpacePart → List ℕ
+part_front part = if part.of == 1 then [] else codes "part " ++ decimal part.number ++ codes " of " ++ decimal part.of ++ codes ": "
+
 abbrev pub IsVerdict : GoalKind → SearchRange → ℕ → Outcome → List ℕ → Type 0
-IsVerdict kind range choices (best ks) text = IsCounted (codes "best of all ") (choices ^ range.count) (codes " sequences\n") text
-IsVerdict kind range choices nothing text = IsNone kind (choices ^ range.count) text
-IsVerdict kind range choices (stopped k) text = text ≡ stop_text kind range k
+IsVerdict kind range choices outcome text = (line : List ℕ) × IsAnswerLine kind range choices outcome line × (text ≡ part_front range.part ++ line)

@@ -3,9 +3,10 @@
 //! The movie's faults come before those of the choices, the names and the goal, as other commands have it: what a search is asked for can
 //! only be judged on a movie.
 
-ghost use Rattle.std.specs.Prelude.{◌≡◌, ◌<◌, true, false, length, IfOk, IfErr, OnErr};
+ghost use Rattle.std.specs.Prelude.{◌≡◌, ◌<◌, true, false, length, IfOk, IfErr};
 ghost use Rattle.tas_search.specs.SearchText.{
   AreGiven,
+  IsCutReport,
   IsGivenError,
   IsGoalOver,
   IsGoalError,
@@ -18,7 +19,6 @@ ghost use Rattle.tas_search.specs.SearchText.{
 };
 ghost use Rattle.tas_search.specs.MovieSearch.{space_of};
 ghost use Rattle.tas_search.specs.Logs.{log_bytes};
-ghost use Rattle.tas_search.specs.Reported.{IsCutReport};
 
 use crate::choices::{ChoicesError, read_choices, stick_choices};
 use crate::goal::{Goal, read_goal};
@@ -30,6 +30,7 @@ use crate::verdict::verdict;
 use std::alloc::Global;
 use std::io::Write;
 use std::thread::Threads;
+use std::time::Clock;
 use tas_engines::{movie_of, print_changes};
 use tas_movie::Movie;
 use vcs_inputs::Input;
@@ -53,7 +54,7 @@ pub struct SearchText {
     /// The script for `tas edit` that writes the best sequence into the movie; nothing where there is no such sequence.
     pub script: Vec<u8>,
     /// The verdict, a line.
-    pub report: Vec<u8>,
+    pub verdict: Vec<u8>,
 }
 
 /// The choices: those of the text, if it is given, and else the left stick's.
@@ -87,7 +88,7 @@ fn goal_of(alloc: Global, names: &[u8], goal: &[u8]) -> Result<Goal, SearchError
 }
 
 /// The script and the verdict of a search of a movie.
-fn found_text<R: Threads + Sync, E: Write, P: Write>(
+fn found_text<R: Threads + Clock + Sync, E: Write, P: Write>(
     rt: &R,
     alloc: Global,
     movie: &Movie,
@@ -99,19 +100,19 @@ fn found_text<R: Threads + Sync, E: Write, P: Write>(
 ) -> Result<SearchText, SearchError>
     requires { 0 < length choices.now }
     ensures text { IfOk result (λ text. IsFoundText movie.now choices.now goal.now.kind
-        goal.now.formula range text.script.items text.report.items (log_bytes (E.contents errors.old) (P.contents report.old))
+        goal.now.formula range text.script.items text.verdict.items (log_bytes (E.contents errors.old) (P.contents report.old))
         (log_bytes (E.contents errors.new) (P.contents report.new))) }
     ensures fault { IfErr result (IsFoundError movie.now range) }
-    ensures cut { OnErr result
-        (IsCutReport (space_of movie.now choices.now range) (log_bytes (E.contents errors.old) (P.contents report.old))
+    ensures cut { IfErr result
+        (λ error. IsCutReport (space_of movie.now choices.now range) range error (log_bytes (E.contents errors.old) (P.contents report.old))
         (log_bytes (E.contents errors.new) (P.contents report.new))) }
 {
     match search_movie(rt, alloc, movie, choices, goal, range, errors, report) {
         Err(fault) => Err(SearchError::Search(fault)),
         Ok((found, changes)) => {
-            let report = verdict(alloc, goal.kind, range, choices.len(), &found)?;
+            let verdict = verdict(alloc, goal.kind, range, choices.len(), &found)?;
             let script = print_changes(alloc, changes.as_slice())?;
-            Ok(SearchText { script, report })
+            Ok(SearchText { script, verdict })
         }
     }
 }
@@ -121,7 +122,7 @@ fn found_text<R: Threads + Sync, E: Write, P: Write>(
 ///
 /// Faults, in order: those of [`movie_of`], `Choices`, `Names`, `Goal`, `Frames`, and then those of [`search_movie`]. Each may be that memory
 /// was refused, once the cartridge has the size of one.
-pub fn search_text<R: Threads + Sync, E: Write, P: Write>(
+pub fn search_text<R: Threads + Clock + Sync, E: Write, P: Write>(
     rt: &R,
     alloc: Global,
     search: &Search<'_>,
@@ -132,18 +133,20 @@ pub fn search_text<R: Threads + Sync, E: Write, P: Write>(
     // A search is a function of its inputs' bytes. After `best of all` the script writes a sequence of the space into the
     // movie that meets the goal, and of all sequences none does so earlier, or has a better value; of those as good it is
     // the first. After `none` no sequence meets it, and after `stopped` none of as many frames as the line says. With it
-    // the report has a line for each layer. All of it is the same whatever the number of workers, which is no input.
+    // the report has a line for each layer. All of it but the rate in each line is the same whatever the number of workers,
+    // which is no input.
     // Refused: changes_are_left_out_of_the_script, choices_file_is_left_unread.
     ensures text { IfOk result (λ text. IsSearchText (inputs_of search.now bytes.now)
-        text.script.items text.report.items (log_bytes (E.contents errors.old) (P.contents report.old))
+        text.script.items text.verdict.items (log_bytes (E.contents errors.old) (P.contents report.old))
         (log_bytes (E.contents errors.new) (P.contents report.new))) }
     // A fault is that of the first input that has one.
     // Refused: goal_is_read_without_names.
     ensures fault { IfErr result (IsSearchError (inputs_of search.now bytes.now)) }
-    // Without an answer the report has the first bytes of the lines of its layers.
+    // Without an answer the report has nothing where the search can't begin, whole lines of the first layers where memory is
+    // refused, and where a write fails perhaps a part of the next line in one of the two writers.
     // Refused: none, the lines are those of `find_goal`.
-    ensures cut { OnErr result
-        (StopsText (inputs_of search.now bytes.now) (log_bytes (E.contents errors.old) (P.contents report.old))
+    ensures cut { IfErr result
+        (λ error. StopsText (inputs_of search.now bytes.now) error (log_bytes (E.contents errors.old) (P.contents report.old))
         (log_bytes (E.contents errors.new) (P.contents report.new))) }
 {
     let movie = match movie_of(alloc, bytes.image, bytes.movie) {

@@ -1,9 +1,13 @@
 //! A state that a search has reached, and how.
 
-ghost use Rattle.std.specs.Prelude.{◌≡◌};
+ghost use Rattle.std.specs.Prelude.{◌≡◌, OnOk};
+ghost use Rattle.indexmap.specs.IndexSet.{insert_all};
+ghost use Rattle.tas_search.specs.Inside.Arrivals.{are_same_arrivals};
 
-use std::hash::{Hash, Hasher};
-use vcs_machine::State;
+use indexmap::IndexSet;
+use std::alloc::{AllocError, Allocator};
+use std::hash::{BuildHasherDefault, FoldHasher, Hash, Hasher};
+use vcs_machine::PackedState;
 
 /// One step of a path, a parent link: the place among the links of the step before it, and the number of the choice
 /// that was made.
@@ -19,9 +23,26 @@ pub(crate) struct Step {
 #[derive(Clone, Copy, Debug)]
 pub(crate) struct Arrival {
     /// The state that was reached.
-    pub state: State,
+    pub state: PackedState,
     /// The last step of the path to it.
     pub step: Step,
+}
+
+/// Arrivals in the order in which they were found, no state twice.
+pub(crate) type Layer<A> = IndexSet<Arrival, BuildHasherDefault<FoldHasher>, A>;
+
+/// Puts arrivals into a layer, in order.
+pub(crate) fn insert_each<A: Allocator>(
+    list: &[Arrival],
+    layer: &mut Layer<A>,
+) -> Result<(), AllocError>
+    ensures { OnOk result
+        (layer.new.keys ≡ insert_all are_same_arrivals layer.old.keys list.now) }
+{
+    for arrival in list {
+        layer.insert(*arrival)?;
+    }
+    Ok(())
 }
 
 impl PartialEq for Arrival {

@@ -1,6 +1,6 @@
 //! The search for the greatest or the least value.
 
-ghost use Rattle.std.specs.Prelude.{◌≡◌, IfOk, OnErr, MatchOption, length};
+ghost use Rattle.std.specs.Prelude.{◌≡◌, IfOk, IfErr, MatchOption, length};
 ghost use Rattle.tas_search.specs.Extreme.{IsExtremeAnswer};
 ghost use Rattle.tas_search.specs.Goal.{value_in};
 ghost use Rattle.tas_search.specs.Outcome.{outcome_of};
@@ -19,6 +19,7 @@ use crate::space::Space;
 use std::alloc::Allocator;
 use std::io::Write;
 use std::thread::Threads;
+use std::time::Clock;
 
 /// Which value is the best one.
 #[derive(Clone, Copy, Debug, PartialEq, Eq)]
@@ -63,7 +64,7 @@ fn best_place<M: Measure>(aim: Aim, measure: &M, layer: &[Arrival]) -> Option<us
 /// sequences of `k` choices, `limits.count` at most, reach more than `limits.states` different states, and those of fewer
 /// don't. `Err`: out of memory, or a line wasn't written whole.
 pub fn find_extreme<
-    R: Threads + Sync,
+    R: Threads + Clock + Sync,
     M: Measure,
     A: Allocator + Copy + Send + Sync,
     C: Allocator + Sync,
@@ -91,7 +92,8 @@ pub fn find_extreme<
     ensures reported { IfOk result (λ found. IsReported space.now limits.count (outcome_of found)
         (log_bytes (E.contents errors.old) (P.contents report.old))
         (log_bytes (E.contents errors.new) (P.contents report.new))) }
-    ensures cut { OnErr result (StopsReporting space.now (log_bytes (E.contents errors.old) (P.contents report.old))
+    ensures cut { IfErr result (λ why. StopsReporting space.now limits.count limits.states why
+        (log_bytes (E.contents errors.old) (P.contents report.old))
         (log_bytes (E.contents errors.new) (P.contents report.new))) }
 {
     let mut frontier = first_frontier(alloc, space)?;

@@ -1,15 +1,16 @@
 //! The frontier of a search: its present layer, and the parent links to it.
 
-ghost use Rattle.std.specs.Prelude.{◌≡◌, ◌+◌, ◌^◌, ◌<◌, true, false, length, IfOk, IfSome, IfNone, OnErr};
+ghost use Rattle.std.specs.Prelude.{◌≡◌, ◌+◌, ◌^◌, ◌<◌, true, false, length, IfOk, IfSome, IfNone, IfErr};
 ghost use Rattle.tas_search.specs.Best.{ReachMoreThan};
-ghost use Rattle.tas_search.specs.LayerLines.{layer_line};
-ghost use Rattle.tas_search.specs.Logs.{Logged, LoggedPart, log_bytes};
+ghost use Rattle.tas_search.specs.Logs.{log_bytes};
+ghost use Rattle.tas_search.specs.Reported.{HasLine, LeavesLayer};
+ghost use Rattle.tas_search.specs.declared.logs.Unfinished.TheVariants.{Report as Unwritten};
 ghost use Rattle.tas_search.specs.Inside.Arrivals.{IsFrontier};
-ghost use Rattle.tas_search.specs.Inside.Counts.{AreCounts};
+ghost use Rattle.tas_search.specs.Inside.Counts.{AreCounts, nanos_between};
 
-use crate::arrival::{Arrival, Step};
+use crate::arrival::{Arrival, Layer, Step};
 use crate::counting::{LayerCounts, count_layer, layer_text};
-use crate::growing::{Layer, grow};
+use crate::growing::grow;
 use crate::limits::Limits;
 use crate::logs::{Unfinished, write_line};
 use crate::parents::keep_steps;
@@ -18,6 +19,7 @@ use indexmap::IndexSet;
 use std::alloc::{AllocError, Allocator};
 use std::io::Write;
 use std::thread::Threads;
+use std::time::{Clock, Instant};
 
 /// The frontier of a search: a layer, and the parent links to it.
 #[derive(Drop)]
@@ -42,7 +44,7 @@ pub(crate) fn first_frontier<A: Allocator + Copy, C: Allocator>(
     ensures depth { IfOk result (λ frontier. frontier.depth ≡ 0) }
 {
     let root = Arrival {
-        state: space.start(),
+        state: space.start().pack(),
         step: Step {
             parent: 0,
             choice: 0,
@@ -81,7 +83,8 @@ fn advance<R: Threads + Sync, A: Allocator + Copy + Send + Sync, C: Allocator + 
     ensures over { IfOk result
         (λ moved. IfNone moved (ReachMoreThan space.now (frontier.old.depth + 1) limits.states)) }
     // The numbers of a layer are those of the definitions, whatever the number of workers.
-    // Refused: states_of_the_layer_before_are_counted, halted_states_go_on_in_the_counts.
+    // Refused: states_of_the_layer_before_are_counted, halted_states_go_on_in_the_counts,
+    // all_choices_go_on_from_the_start.
     ensures counts { IfOk result (λ moved. IfSome moved (AreCounts space.now frontier.new.depth)) }
 {
     let end = frontier.parents.len();
@@ -90,7 +93,8 @@ fn advance<R: Threads + Sync, A: Allocator + Copy + Send + Sync, C: Allocator + 
         None => return Ok(None),
         Some(grown) => grown,
     };
-    let counts = count_layer(space, before, grown.layer.len(), grown.tried)?;
+    let states = grown.layer.len();
+    let counts = count_layer(space, frontier.depth, before, states, grown.tried, end)?;
     keep_steps(grown.layer.as_slice(), &mut frontier.parents)?;
     frontier.place = end;
     frontier.depth += 1;
@@ -98,9 +102,20 @@ fn advance<R: Threads + Sync, A: Allocator + Copy + Send + Sync, C: Allocator + 
     Ok(Some(counts))
 }
 
+/// How many nanoseconds are between two readings of the clock; 0 where one of them failed, and where the clock went back.
+fn nanos_between(start: Option<Instant>, end: Option<Instant>) -> u128
+    // Refused: layers_take_no_time.
+    ensures { result ≡ nanos_between start end }
+{
+    let (Some(start), Some(end)) = (start, end) else {
+        return 0;
+    };
+    end.duration_since(start).as_nanos()
+}
+
 /// Moves the frontier on by one choice, and reports the new layer; `false` where it has more states than the limit.
 pub(crate) fn step<
-    R: Threads + Sync,
+    R: Threads + Clock + Sync,
     A: Allocator + Copy + Send + Sync,
     C: Allocator + Sync,
     E: Write,
@@ -126,20 +141,26 @@ pub(crate) fn step<
     ensures over { IfOk result
         (λ moved. moved ≡ false → ReachMoreThan space.now (frontier.old.depth + 1) limits.states) }
     // A layer that was searched whole is reported, and no other.
-    // Refused: layer_is_reported_one_late, line_is_left_out.
+    // Refused: line_names_the_layer_before, line_is_left_out.
     ensures line { IfOk result (λ moved. moved ≡ true
-        → Logged (log_bytes (E.contents errors.old) (P.contents report.old))
-        (log_bytes (E.contents errors.new) (P.contents report.new)) (layer_line space.now (frontier.old.depth + 1))) }
+        → HasLine space.now (frontier.old.depth + 1) (log_bytes (E.contents errors.old) (P.contents report.old))
+        (log_bytes (E.contents errors.new) (P.contents report.new))) }
     ensures none { IfOk result (λ moved. moved ≡ false → (log_bytes (E.contents errors.new) (P.contents report.new))
         ≡ (log_bytes (E.contents errors.old) (P.contents report.old))) }
-    ensures cut { OnErr result
-        (LoggedPart (log_bytes (E.contents errors.old) (P.contents report.old))
-        (log_bytes (E.contents errors.new) (P.contents report.new)) (layer_line space.now (frontier.old.depth + 1))) }
+    // `Report` comes only where the layer's line isn't whole in both.
+    // Refused: none, it is what `write_line` says.
+    ensures cut { IfErr result (λ why. LeavesLayer space.now (frontier.old.depth + 1) why
+        (log_bytes (E.contents errors.old) (P.contents report.old))
+        (log_bytes (E.contents errors.new) (P.contents report.new))) }
+    ensures kept { IfErr result
+        (λ why. why ≡ Unwritten → ReachMoreThan space.now (frontier.old.depth + 1) limits.states → ⊥) }
 {
+    let start = Instant::now(rt).ok();
     let Some(counts) = advance(rt, alloc, space, frontier, limits)? else {
         return Ok(false);
     };
-    let line = layer_text(alloc, space.hold(), frontier.depth, counts)?;
+    let nanos = nanos_between(start, Instant::now(rt).ok());
+    let line = layer_text(alloc, space.hold(), frontier.depth, counts, nanos)?;
     write_line(errors, report, line.as_slice())?;
     Ok(true)
 }

@@ -1,6 +1,6 @@
 //! The search for a goal.
 
-ghost use Rattle.std.specs.Prelude.{IfOk, OnErr};
+ghost use Rattle.std.specs.Prelude.{IfOk, IfErr};
 ghost use Rattle.tas_search.specs.GoalAnswer.{IsGoalAnswer};
 ghost use Rattle.tas_search.specs.Outcome.{outcome_of};
 ghost use Rattle.tas_search.specs.Logs.{log_bytes};
@@ -15,6 +15,7 @@ use crate::space::Space;
 use std::alloc::Allocator;
 use std::io::Write;
 use std::thread::Threads;
+use std::time::Clock;
 
 /// Searches a space for what a goal asks for: the shortest sequence of at most `limits.count` choices after which its expression isn't 0,
 /// or the sequence of exactly as many choices after which its value is greatest, or least. At most `limits.states` different states of one
@@ -22,7 +23,7 @@ use std::thread::Threads;
 ///
 /// What is found and reported is what [`find_shortest`] and [`find_extreme`] say of it. `Err`: out of memory, or a line wasn't written whole.
 pub fn find_goal<
-    R: Threads + Sync,
+    R: Threads + Clock + Sync,
     A: Allocator + Copy + Send + Sync,
     C: Allocator + Sync,
     E: Write,
@@ -42,7 +43,8 @@ pub fn find_goal<
     ensures reported { IfOk result (λ found. IsReported space.now limits.count (outcome_of found)
         (log_bytes (E.contents errors.old) (P.contents report.old))
         (log_bytes (E.contents errors.new) (P.contents report.new))) }
-    ensures cut { OnErr result (StopsReporting space.now (log_bytes (E.contents errors.old) (P.contents report.old))
+    ensures cut { IfErr result (λ why. StopsReporting space.now limits.count limits.states why
+        (log_bytes (E.contents errors.old) (P.contents report.old))
         (log_bytes (E.contents errors.new) (P.contents report.new))) }
 {
     let formula = &goal.formula;

@@ -1,14 +1,14 @@
 //! The next layer.
 //!
-//! A layer is an `IndexSet` of states in the order in which they were found, compared by `==` and hashed by their RAM.
-//! Its states are found in the order of the first sequences to them, since those of the layer before are: so the first
-//! state that meets the goal has the first sequence. The proofs see layers as lists (`specs/Inside/Layers.antt`); the
-//! definitions of the answers don't name them.
+//! A layer is an `IndexSet` of states in the order in which they were found, compared by `==` and hashed by their RAM. A state
+//! takes 200 bytes there (`PackedState`), and 16 more for the last step to it. Its states are found in the order of the
+//! first sequences to them, since those of the layer before are: so the first state that meets the goal has the first
+//! sequence. The proofs see layers as lists (`specs/Inside/Layers.antt`); the definitions of the answers don't name them.
 //!
-//! Workers play stretches of the layer before, each worker one at a time, and list what they reach; one thread puts the
-//! lists into the next layer, in order, so that the layer is the same whatever the workers. Some thousand choices are
-//! played at a time by each worker, so the lists take little beside the layers; the limit of states is compared after
-//! each list. A layer without states ends the search.
+//! Workers play stretches of the layer before, each worker one at a time, and put what they reach into sets of their own; one
+//! thread puts these into the next layer, in order, so that the layer is the same whatever the workers. Some thousand choices
+//! are played at a time by each worker, so the sets take little beside the layers; the limit of states is compared after
+//! each set. A layer without states ends the search.
 
 ghost use Rattle.std.specs.Prelude.{◌≡◌, ◌+◌, ◌^◌, ◌<◌, ◌≤◌, [], length, true, false, OnOk, IfOk, IfSome, MatchOption};
 ghost use Rattle.indexmap.specs.IndexSet.{insert_all};
@@ -17,23 +17,19 @@ ghost use Rattle.tas_search.specs.Inside.Arrivals.{
   grown_arrivals,
   tried_of,
   AreParts,
+  Finds,
   GrowsBy,
-  Lists,
   TakesParts,
   IsOver,
 };
 
-use crate::arrival::Arrival;
+use crate::arrival::{Arrival, Layer, insert_each};
 use crate::limits::{Limits, MAX_WORKERS};
 use crate::reaching::{Part, reach};
 use crate::space::Space;
 use indexmap::IndexSet;
 use std::alloc::{AllocError, Allocator};
-use std::hash::{BuildHasherDefault, FoldHasher};
 use std::thread::{Threads, map_chunks};
-
-/// The arrivals of a layer, in the order in which they were found, no state twice.
-pub(crate) type Layer<A> = IndexSet<Arrival, BuildHasherDefault<FoldHasher>, A>;
 
 /// How many choices a worker plays at a time, about.
 const CHOICES_AT_A_TIME: usize = 4_096;
@@ -47,29 +43,18 @@ pub(crate) struct Grown<A: Allocator> {
     pub tried: usize,
 }
 
-/// Puts arrivals into a layer, in order.
-fn insert_each<A: Allocator>(list: &[Arrival], layer: &mut Layer<A>) -> Result<(), AllocError>
-    ensures { OnOk result
-        (layer.new.keys ≡ insert_all are_same_arrivals layer.old.keys list.now) }
-{
-    for arrival in list {
-        layer.insert(*arrival)?;
-    }
-    Ok(())
-}
-
 /// Puts what a worker reached into a layer.
 fn take_part<A: Allocator>(part: &Part<A>, grown: &mut Grown<A>) -> Result<(), AllocError>
     ensures whole { OnOk result (part.now.whole ≡ true) }
     ensures keys { OnOk result (grown.new.layer.keys
-        ≡ insert_all are_same_arrivals grown.old.layer.keys part.now.list.items) }
-    ensures tried { OnOk result (grown.new.tried ≡ grown.old.tried + length part.now.list.items) }
+        ≡ insert_all are_same_arrivals grown.old.layer.keys part.now.found.keys) }
+    ensures tried { OnOk result (grown.new.tried ≡ grown.old.tried + part.now.tried) }
 {
     if !part.whole {
         return Err(AllocError);
     }
-    insert_each(part.list.as_slice(), &mut grown.layer)?;
-    grown.tried = grown.tried.checked_add(part.list.len()).ok_or(AllocError)?;
+    insert_each(part.found.as_slice(), &mut grown.layer)?;
+    grown.tried = grown.tried.checked_add(part.tried).ok_or(AllocError)?;
     Ok(())
 }
 
@@ -109,7 +94,7 @@ fn play_parts<R: Threads + Sync, A: Allocator + Copy + Send + Sync, C: Allocator
     let play = move |start: usize, part: &[Arrival]| -> Part<A>
         requires { place + start + length part.now < 2 ^ 64 }
         ensures { result.whole ≡ true
-            → Lists space.entry.now (place + start) part.entry.now result.list.items }
+            → Finds space.entry.now (place + start) part.entry.now result.found.keys result.tried }
     { reach(alloc, space, part, place + start) };
     let parts = map_chunks(rt, alloc, block, stretch, &play)?;
     Ok(parts)
@@ -156,17 +141,19 @@ pub(crate) fn grow<R: Threads + Sync, A: Allocator + Copy + Send + Sync, C: Allo
 ) -> Result<Option<Grown<A>>, AllocError>
     requires { place + length layer.now < 2 ^ 64 }
     // The layer after a layer has what each choice reaches from each of its states, in this order, each state
-    // once; halted states reach nothing. So each machine that sequences of a length reach is in the layer of that
-    // length, with the first of these sequences, whatever the number of workers.
+    // once; halted states reach nothing. After the start the choices are those of the part, after any other state they are
+    // all. So each machine that sequences of a length reach is in the layer of that length, with the first of these
+    // sequences, whatever the number of workers.
     // Refused: last_state_of_a_layer_is_left_out, last_choice_is_left_out, first_choice_stands_for_all,
     // halted_state_goes_on, limit_is_one_state_too_small, part_of_a_worker_is_lost, later_part_is_put_in_first,
-    // refused_part_is_taken_for_whole.
+    // refused_part_is_taken_for_whole, last_first_choice_is_left_out, first_choices_are_all_choices,
+    // later_choices_are_those_of_the_part, first_of_all_choices_stands_for_the_part, first_state_of_a_worker_is_lost.
     ensures layer { IfOk result (λ grown. MatchOption grown (IsOver space.now layer.now place limits.states)
         (λ next. (next.layer.keys ≡ grown_arrivals space.now [] place layer.now)
         × (length next.layer.keys ≤ limits.states))) }
     // Each choice that is played is counted.
-    // Refused: choices_of_the_last_part_alone_are_counted.
-    ensures tried { IfOk result (λ grown. IfSome grown (λ next. next.tried ≡ tried_of space.now layer.now)) }
+    // Refused: choices_of_the_last_part_alone_are_counted, one_choice_of_a_worker_is_counted.
+    ensures tried { IfOk result (λ grown. IfSome grown (λ next. next.tried ≡ tried_of space.now place layer.now)) }
 {
     let size = block_size(space.choice_count(), limits.workers);
     let mut grown = Grown {

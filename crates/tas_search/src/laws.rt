@@ -1,22 +1,27 @@
 //! Laws of the definitions.
 
-ghost use Rattle.std.specs.Prelude.{◌≡◌, ℕ, ◌<◌, Bool, List, ◌∷◌, ◌++◌, length};
+ghost use Rattle.std.specs.Prelude.{◌≡◌, ℕ, suc, ◌-◌, ◌*◌, ◌^◌, ◌<◌, ◌≤◌, ◌↔◌, ℤ, Bool, List, ◌∷◌, ◌++◌, length, map, None};
+ghost use Rattle.std.specs.List.{Contains, range_with_len};
 ghost use Rattle.vcs_machine.specs.Machine.{Machine};
-ghost use Rattle.tas_search.specs.Best.{IsShortest};
-ghost use Rattle.tas_search.specs.Parts.{IsBestPart};
+ghost use Rattle.tas_search.specs.Best.{IsShortest, NeedsAtLeast};
+ghost use Rattle.tas_search.specs.Extreme.{IsExtreme};
+ghost use Rattle.tas_search.specs.Outcome.{Outcome, nothing};
+ghost use Rattle.tas_search.specs.Parts.{HaveExtremes, HaveShortest, IsBestPart, IsPart, IsShortestPart, least_count, part_of, sequence_count, whole};
+ghost use Rattle.tas_search.specs.LayerLines.{sequences};
+ghost use Rattle.tas_search.specs.declared.extremes.Aim.{Aim};
 ghost use Rattle.tas_search.specs.declared.expression.Expression.{Expression};
 ghost use Rattle.tas_search.specs.declared.goal.GoalKind.{GoalKind};
 ghost use Rattle.tas_search.specs.Expression.{value_of};
 ghost use Rattle.tas_search.specs.GoalText.{IsGoalText};
 ghost use Rattle.tas_search.specs.Grammar.{Tree, tree_of};
-ghost use Rattle.tas_search.specs.Space.{SpaceContent, AreChoices, rank};
+ghost use Rattle.tas_search.specs.Space.{SpaceContent, AreNumbers, AreChoices, rank, reached};
 ghost use Rattle.tas_search.specs.Words.{Names};
 
 /// Of two sequences of one length that begin alike, the one comes first whose next choice does.
 pub fn first_difference_decides()
     // Refused: none, it is a law of the definitions and has no code.
     ensures { (space : SpaceContent) (front a b : List ℕ) (j k : ℕ)
-        → j < k → AreChoices space a → length a ≡ length b
+        → j < k → AreNumbers space a → length a ≡ length b
         → rank space (front ++ j ∷ a) < rank space (front ++ k ∷ b) }
 {}
 
@@ -34,11 +39,62 @@ pub fn one_value_per_tree()
         → tree_of a ≡ tree_of b → value_of a ram ≡ value_of b ram }
 {}
 
-/// The best of the parts of a space, a part for each first choice, is the whole's.
+/// The best of the answers of a space's parts is the whole's.
 pub fn best_part_is_best()
-    // So a space can be searched in parts, one after the other or on several machines: where the start doesn't meet the goal, the part whose
-    // shortest sequence has the fewest choices, and of those with as few the first, has the shortest sequence of all.
+    // So a space can be searched in parts, one after the other or on several machines: of the parts' answers the sequence with the fewest choices,
+    // and of those with as few that of the first part, is the shortest of all, and the first of them. A part that stopped is no matter where its
+    // answer says that none of so few choices meets the goal. Each part may have been searched with a limit of states of its own.
     // Refused: none, it is a law of the definitions and has no code.
-    ensures { (space : SpaceContent) (goal : Machine → Bool) (k : ℕ) (ks : List ℕ)
-        → IsBestPart space goal k ks → IsShortest space goal (k ∷ ks) }
+    ensures { (space : SpaceContent) (goal : Machine → Bool) (most n : ℕ) (states : ℕ → ℕ)
+        (answers : ℕ → Outcome) (k : ℕ) (ks : List ℕ)
+        → HaveShortest space goal most n states answers → IsShortestPart most n answers k ks
+        → IsShortest (whole space) goal ks }
+{}
+
+/// The best of the greatest or least values of a space's parts is the whole's.
+pub fn best_value_of_parts_is_best()
+    // Of the parts' answers the sequence with the best value, and of those with the same that of the first part, is the whole's, where no part stopped.
+    // Each part may have been searched with a limit of states of its own.
+    // Refused: none, it is a law of the definitions and has no code.
+    ensures { (space : SpaceContent) (aim : Aim) (value : Machine → ℤ) (count n : ℕ) (states : ℕ → ℕ)
+        (answers : ℕ → Outcome) (k : ℕ) (ks : List ℕ) → HaveExtremes space aim value count n states answers
+        → IsBestPart space aim value n answers k ks
+        → IsExtreme (whole space) aim value count ks }
+{}
+
+/// The list of the sequences of a length has each of them, once, in order.
+pub fn sequences_are_listed()
+    // So its length is how many sequences of the space have so many choices: a list of numbers is on it where it is such a sequence, and nowhere else.
+    // Refused: none, it is a law of the definitions and has no code.
+    ensures all { (space : SpaceContent) (count : ℕ) (ks : List ℕ)
+        → (AreChoices space ks × (length ks ≡ count)) ↔ Contains (sequences space count) ks }
+    // Their places among all sequences follow one another, so none is there twice.
+    // Refused: none, it is a law of the definitions and has no code.
+    ensures order { (space : SpaceContent) (count : ℕ) → map (rank space) (sequences space (suc count))
+        ≡ range_with_len (space.low * length space.choices ^ count) ((space.high - space.low) * length space.choices ^ count) }
+{}
+
+/// How many sequences a part has.
+pub fn sequences_are_counted()
+    // The number in a verdict is that of all sequences of a part that have so many choices.
+    // Refused: none, it is a law of the definitions and has no code.
+    ensures { (space : SpaceContent) (k n count : ℕ) → length (sequences (part_of space k n) count)
+        ≡ sequence_count k n (length space.choices) count }
+{}
+
+/// What no part of a space has, the whole doesn't have.
+pub fn what_no_part_has_the_whole_lacks()
+    // Where by each part's answer no sequence of fewer than `count` choices meets the goal, none of the whole does: so where each answer is `Nothing`,
+    // none of the whole does. Here, too, each part has a limit of states of its own.
+    // Refused: none, it is a law of the definitions and has no code.
+    ensures shortest { (space : SpaceContent) (goal : Machine → Bool) (most n count : ℕ) (states : ℕ → ℕ)
+        (answers : ℕ → Outcome) → 1 ≤ n → HaveShortest space goal most n states answers
+        → ((k : ℕ) → IsPart k n → count ≤ least_count most (answers k))
+        → NeedsAtLeast (whole space) goal count }
+    // Where no part has a sequence of `count` choices that reaches a machine, the whole has none.
+    // Refused: none, it is a law of the definitions and has no code.
+    ensures value { (space : SpaceContent) (aim : Aim) (value : Machine → ℤ) (count n : ℕ) (states : ℕ → ℕ)
+        (answers : ℕ → Outcome) → 1 ≤ n → HaveExtremes space aim value count n states answers
+        → ((k : ℕ) → IsPart k n → answers k ≡ nothing)
+        → (ks : List ℕ) → AreChoices (whole space) ks → length ks ≡ count → reached (whole space) ks ≡ None }
 {}

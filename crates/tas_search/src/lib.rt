@@ -31,6 +31,7 @@ mod search_error;
 mod search_request;
 mod searching;
 mod space;
+mod space_part;
 mod starting;
 mod verdict;
 mod word;
@@ -44,7 +45,9 @@ pub use formula::Formula;
 pub use goal::{Goal, GoalFault, GoalKind, read_goal};
 pub use goal_search::find_goal;
 pub use laws::{
-    best_part_is_best, first_difference_decides, one_goal_per_text, one_value_per_tree,
+    best_part_is_best, best_value_of_parts_is_best, first_difference_decides, one_goal_per_text,
+    one_value_per_tree, sequences_are_counted, sequences_are_listed,
+    what_no_part_has_the_whole_lacks,
 };
 pub use limits::{Limits, MAX_WORKERS};
 pub use logs::Unfinished;
@@ -57,5 +60,6 @@ pub use search_error::SearchError;
 pub use search_request::Search;
 pub use searching::{Found, find_shortest};
 pub use space::Space;
+pub use space_part::SpacePart;
 pub use starting::state_at;
 pub use word::Wanted;

@@ -16,10 +16,12 @@ use crate::limits::Limits;
 use crate::logs::Unfinished;
 use crate::searching::Found;
 use crate::space::Space;
+use crate::space_part::SpacePart;
 use crate::starting::state_at;
 use std::alloc::{AllocError, Allocator};
 use std::io::Write;
 use std::thread::Threads;
+use std::time::Clock;
 use tas_language::Change;
 use tas_movie::{MAX_FRAMES, Movie};
 use thiserror::Error;
@@ -38,6 +40,8 @@ pub struct SearchRange {
     pub states: usize,
     /// How many workers play a layer ([`Limits::workers`]).
     pub workers: usize,
+    /// Which part of the space is searched.
+    pub part: SpacePart,
 }
 
 /// Why a movie's space wasn't searched.
@@ -49,6 +53,9 @@ pub enum SearchFault {
     /// A choice is held for no frame.
     #[error("hold is 0")]
     Hold,
+    /// The part has number 0, or there are fewer parts than its number.
+    #[error("no such part")]
+    Part,
     /// With the longest sequences the movie would be too long.
     #[error("movie gets too long")]
     Long,
@@ -107,12 +114,17 @@ fn found_changes<A: Allocator, C: Allocator>(
     }
 }
 
-/// Searches the space of some choices after a movie's first frames for what a goal asks, and returns what was found with the changes
+/// Searches a part of the space of some choices after a movie's first frames for what a goal asks, and returns what was found with the changes
 /// that write it into the movie: none where no sequence was found. Writes a line for each layer that was searched whole.
 ///
 /// Faults, in order: `Short` where the movie has fewer frames than the search begins after, `Hold` where a choice is held for no
-/// frame, `Long` where the movie would get too long; `Memory` and `Report` at any point after these.
-pub fn search_movie<R: Threads + Sync, A: Allocator + Copy + Send + Sync, E: Write, P: Write>(
+/// frame, `Part` where there is no such part, `Long` where the movie would get too long; `Memory` and `Report` at any point after these.
+pub fn search_movie<
+    R: Threads + Clock + Sync,
+    A: Allocator + Copy + Send + Sync,
+    E: Write,
+    P: Write,
+>(
     rt: &R,
     alloc: A,
     movie: &Movie<A>,
@@ -122,13 +134,13 @@ pub fn search_movie<R: Threads + Sync, A: Allocator + Copy + Send + Sync, E: Wri
     errors: &mut E,
     report: &mut P,
 ) -> Result<(Found<A>, Vec<Change, A>), SearchFault>
-    // A movie's space begins with the machine after its first frames, and is searched whole for what the goal
-    // asks; with the answer come the changes that write it into the movie. Where the movie has fewer frames, a choice
-    // is held for no frame, or the movie would get too long, this is the fault, and memory is one only where it is none
-    // of these.
+    // A movie's space begins with the machine after its first frames, and the part of it that is asked for is searched whole for
+    // what the goal asks; with the answer come the changes that write it into the movie. Where the movie has fewer frames, a choice
+    // is held for no frame, there is no such part, or the movie would get too long, this is the fault, and memory is one only where
+    // it is none of these.
     // Refused: space_of_a_movie_begins_at_power_on, movie_that_gets_too_long_is_searched,
     // start_after_the_end_is_searched, hold_of_no_frame_is_searched, short_movie_is_reported_by_its_start,
-    // long_movie_is_reported_as_memory.
+    // long_movie_is_reported_as_memory, part_is_left_out_of_the_search, missing_part_is_reported_as_a_long_movie.
     ensures found { IfOk result (λ r. IsMovieAnswer movie.now choices.now goal.now.kind
         goal.now.formula range (outcome_of r.0) r.1.items) }
     ensures fault { IfErr result (IsSearchFault movie.now range) }
@@ -138,7 +150,7 @@ pub fn search_movie<R: Threads + Sync, A: Allocator + Copy + Send + Sync, E: Wri
         range.count (outcome_of r.0) (log_bytes (E.contents errors.old) (P.contents report.old))
         (log_bytes (E.contents errors.new) (P.contents report.new))) }
     ensures cut { IfErr result
-        (StopsSearching (space_of movie.now choices.now range) (log_bytes (E.contents errors.old) (P.contents report.old))
+        (StopsSearching (space_of movie.now choices.now range) range (log_bytes (E.contents errors.old) (P.contents report.old))
         (log_bytes (E.contents errors.new) (P.contents report.new))) }
 {
     if movie.len() < range.from {
@@ -147,11 +159,14 @@ pub fn search_movie<R: Threads + Sync, A: Allocator + Copy + Send + Sync, E: Wri
     if range.hold == 0 {
         return Err(SearchFault::Hold);
     }
+    let Some((low, high)) = range.part.first_choices(choices.len()) else {
+        return Err(SearchFault::Part);
+    };
     if !fits(range) {
         return Err(SearchFault::Long);
     }
     let start = state_at(movie, range.from);
-    let space = Space::new(movie.cart(), start, choices, range.hold);
+    let space = Space::new(movie.cart(), start, choices, range.hold).bounded(low, high);
     let limits = Limits {
         count: range.count,
         states: range.states,

@@ -1,4 +1,4 @@
-//! Powers in decimal digits.
+//! Powers, and numbers of them, in decimal digits.
 //!
 //! No number of the machine holds how many sequences a search of some hundred choices has. So the digits of one are multiplied, the lowest
 //! first, as on paper; by a power of the base at a time, the greatest that the machine's numbers allow.
@@ -95,19 +95,26 @@ fn reversed<A: Allocator>(alloc: A, bytes: &[u8]) -> Result<Vec<u8, A>, AllocErr
     bytes.iter().rev().copied().collect(alloc)
 }
 
-/// A power in decimal digits.
-pub(crate) fn power_text<A: Allocator + Copy>(
+/// A number of powers in decimal digits.
+pub(crate) fn product_text<A: Allocator + Copy>(
     alloc: A,
+    factor: usize,
     base: usize,
     exponent: usize,
 ) -> Result<Vec<u8, A>, AllocError>
+    requires factor { factor ≤ 2 ^ 60 }
     requires low { 0 < base }
     requires high { base ≤ 2 ^ 60 }
-    // The text is the power itself, whatever its size.
+    // The text is the number itself, whatever its size.
     // Refused: digits_are_multiplied_without_carry.
-    ensures { IfOk result (λ text. IsDecimal text.items (base ^ exponent)) }
+    ensures { IfOk result (λ text. IsDecimal text.items (factor * base ^ exponent)) }
 {
+    if factor == 0 {
+        let zero = Vec::from_slice(alloc, b"0")?;
+        return Ok(zero);
+    }
     let digits = power(alloc, base, exponent)?;
-    let text = reversed(alloc, digits.as_slice())?;
+    let product = times(alloc, digits.as_slice(), factor)?;
+    let text = reversed(alloc, product.as_slice())?;
     Ok(text)
 }

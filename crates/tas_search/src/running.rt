@@ -16,6 +16,7 @@ use crate::search_request::Search;
 use std::alloc::Global;
 use std::io::{Read, Write};
 use std::thread::Threads;
+use std::time::Clock;
 use tas_engines::write_all;
 
 /// The place of the names among the inputs.
@@ -58,7 +59,7 @@ fn search_bytes<'a>(search: &Search<'_>, inputs: &'a [Vec<u8>]) -> SearchBytes<'
 }
 
 /// Searches by these inputs, writes the script and returns the verdict.
-fn answer<R: Threads + Sync, W: Write, E: Write, P: Write>(
+fn answer<R: Threads + Clock + Sync, W: Write, E: Write, P: Write>(
     rt: &R,
     alloc: Global,
     search: &Search<'_>,
@@ -67,7 +68,7 @@ fn answer<R: Threads + Sync, W: Write, E: Write, P: Write>(
     errors: &mut E,
     report: &mut P,
 ) -> Result<Vec<u8>, SearchError>
-    ensures { Ends (λ report. report.items)
+    ensures { Ends (λ verdict. verdict.items)
         (read_inputs search.now (map (λ bytes. bytes.items) inputs.now)) (W.contents output.old)
         (W.contents output.new) (log_bytes (E.contents errors.old) (P.contents report.old))
         (log_bytes (E.contents errors.new) (P.contents report.new)) result }
@@ -75,9 +76,9 @@ fn answer<R: Threads + Sync, W: Write, E: Write, P: Write>(
     let bytes = search_bytes(search, inputs);
     match search_text(rt, alloc, search, &bytes, errors, report) {
         Err(error) => Err(error),
-        Ok(SearchText { script, report }) => match write_all(output, script.as_slice()) {
+        Ok(SearchText { script, verdict }) => match write_all(output, script.as_slice()) {
             Err(fault) => Err(SearchError::Run(fault)),
-            Ok(()) => Ok(report),
+            Ok(()) => Ok(verdict),
         },
     }
 }
@@ -87,7 +88,7 @@ fn answer<R: Threads + Sync, W: Write, E: Write, P: Write>(
 ///
 /// Faults, in order: `Read` of the first input that isn't read whole, and those after it are left untouched; then those of
 /// [`search_text`](crate::search_text), and nothing is written but lines of layers; `Run` of a write of the script that failed.
-pub fn search_run<T: Threads + Sync, F: Read, R: Read, W: Write, E: Write, P: Write>(
+pub fn search_run<T: Threads + Clock + Sync, F: Read, R: Read, W: Write, E: Write, P: Write>(
     rt: &T,
     alloc: Global,
     search: &Search<'_>,
@@ -100,9 +101,9 @@ pub fn search_run<T: Threads + Sync, F: Read, R: Read, W: Write, E: Write, P: Wr
     // A search reads its inputs whole, in order, writes the lines of its layers and then the script that `search_text` makes of their bytes, and
     // returns its verdict; or reports the fault with no script written. After a write of the script that failed its first bytes are out, as many
     // as it reports.
-    // Refused: last_byte_of_the_script_is_left_out, report_of_a_search_is_its_script,
+    // Refused: last_byte_of_the_script_is_left_out, verdict_of_a_search_is_its_script,
     // names_are_read_from_the_choices_file.
-    ensures { IsSearchRun (λ report. report.items) search.now (map F.remaining files.old) (map F.remaining files.new)
+    ensures { IsSearchRun (λ verdict. verdict.items) search.now (map F.remaining files.old) (map F.remaining files.new)
         (R.remaining input.old) (R.remaining input.new) (W.contents output.old)
         (W.contents output.new) (log_bytes (E.contents errors.old) (P.contents report.old))
         (log_bytes (E.contents errors.new) (P.contents report.new)) result }

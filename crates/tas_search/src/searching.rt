@@ -1,6 +1,6 @@
 //! The search for the shortest sequence.
 
-ghost use Rattle.std.specs.Prelude.{◌≡◌, IfOk, OnErr};
+ghost use Rattle.std.specs.Prelude.{◌≡◌, IfOk, IfErr};
 ghost use Rattle.std.specs.List.{position};
 ghost use Rattle.tas_search.specs.Best.{IsReachAnswer};
 ghost use Rattle.tas_search.specs.Goal.{holds_of};
@@ -18,6 +18,7 @@ use crate::space::Space;
 use std::alloc::{Allocator, Global};
 use std::io::Write;
 use std::thread::Threads;
+use std::time::Clock;
 
 /// What a search found. [`find_shortest`] and [`find_extreme`](crate::find_extreme) say what each means for them.
 #[derive(Drop)]
@@ -44,7 +45,7 @@ fn first_meeting<M: Measure>(goal: &M, layer: &[Arrival]) -> Option<usize>
 /// `Nothing`: there is none. `Stopped(k)`: sequences of `k` choices reach more than `limits.states` different states, those of
 /// fewer don't, and after none of fewer does the goal hold. `Err`: out of memory, or a line wasn't written whole.
 pub fn find_shortest<
-    R: Threads + Sync,
+    R: Threads + Clock + Sync,
     M: Measure,
     A: Allocator + Copy + Send + Sync,
     C: Allocator + Sync,
@@ -69,16 +70,18 @@ pub fn find_shortest<
     // layer_over_the_limit_is_kept, search_ends_one_choice_early, goal_is_looked_at_one_choice_late.
     ensures found { IfOk result (λ found. IsReachAnswer space.now (holds_of (M.value goal.now))
         limits.count limits.states (outcome_of found)) }
-    // Both writers get the line of each layer that was searched, with its numbers, in order; where the search isn't
-    // finished, a beginning of such lines.
+    // Both writers get the line of each layer that was searched, with its numbers, in order; only how long it took is the
+    // clock's to say. Where the search isn't finished, they have the lines of layers to which it can come, and with
+    // `Report` a line is cut off: one of the two writers hasn't the whole of it.
     // Refused: none, a line that is left out or of another layer is refused at `step`.
     ensures reported { IfOk result (λ found. IsReported space.now limits.count (outcome_of found)
         (log_bytes (E.contents errors.old) (P.contents report.old))
         (log_bytes (E.contents errors.new) (P.contents report.new))) }
-    ensures cut { OnErr result (StopsReporting space.now (log_bytes (E.contents errors.old) (P.contents report.old))
+    ensures cut { IfErr result (λ why. StopsReporting space.now limits.count limits.states why
+        (log_bytes (E.contents errors.old) (P.contents report.old))
         (log_bytes (E.contents errors.new) (P.contents report.new))) }
 {
-    if holds(goal, &space.start()) {
+    if holds(goal, &space.start().pack()) {
         return Ok(Found::Best(Vec::new(alloc)));
     }
     let mut frontier = first_frontier(alloc, space)?;

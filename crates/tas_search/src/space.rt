@@ -6,25 +6,29 @@
 //! start; so a layer is what sequences of one length reach. A sequence ends where the machine halts: with its last
 //! choice it may meet the goal, before that it has no value.
 
-ghost use Rattle.std.specs.Prelude.{◌≡◌, ℕ, length, replicate, slice_index_or, true};
+ghost use Rattle.std.specs.Prelude.{◌≡◌, ◌+◌, ◌^◌, ◌<◌, ℕ, IfSome, IfNone, length, replicate, slice_index_or, true};
 ghost use Rattle.vcs_inputs.specs.declared.input.Input.{Input};
 ghost use Rattle.vcs_inputs.specs.Input.{no_input};
 ghost use Rattle.vcs_machine.specs.Machine.{after_from};
-ghost use Rattle.tas_search.specs.Space.{after_choice, are_lag_frames};
+ghost use Rattle.tas_search.specs.Space.{after_choice, are_lag_frames, low_at, count_at};
+ghost use Rattle.tas_search.specs.Parts.{part_of, IsPart};
 
+use crate::space_part::SpacePart;
 use std::alloc::Allocator;
 use std::marker::Model;
 use vcs_inputs::{Cart, Input};
 use vcs_machine::{Meter, State, play_for_lag, play_unseen};
 
 /// What a search goes through: all sequences of some choices from a state on, each choice an input that is held for
-/// the same number of frames.
+/// the same number of frames; or a part of them, by the first choice.
 #[derive(Drop)]
 pub struct Space<'a, C: Allocator> {
     cart: &'a Cart<C>,
     start: State,
     choices: &'a [Input],
     hold: usize,
+    low: usize,
+    high: usize,
 }
 
 impl<'a, C: Allocator> Model for Space<'a, C> {
@@ -37,6 +41,8 @@ impl<'a, C: Allocator> Model for Space<'a, C> {
       start = s.start;
       choices = s.choices.now;
       hold = s.hold;
+      low = s.low;
+      high = s.high;
     } };
 }
 
@@ -44,13 +50,15 @@ impl<'a, C: Allocator> Space<'a, C> {
     /// The sequences of these choices from a state on, each choice held for `hold` frames. Where `hold` is 0 every
     /// sequence leads to the start; where there are no choices there is the empty sequence alone.
     pub fn new(cart: &'a Cart<C>, start: State, choices: &'a [Input], hold: usize) -> Self
-        // A space has the cartridge, the start, the choices and the frames for each that it was made of.
+        // A space has the cartridge, the start, the choices and the frames for each that it was made of, and all sequences.
         // Refused: choices_are_held_one_frame_longer.
         ensures { result ≡ record {
           cart = cart.now;
           start = start;
           choices = choices.now;
           hold = hold;
+          low = 0;
+          high = length choices.now;
         } }
     {
         Space {
@@ -58,7 +66,36 @@ impl<'a, C: Allocator> Space<'a, C> {
             start,
             choices,
             hold,
+            low: 0,
+            high: choices.len(),
         }
+    }
+
+    /// The sequences whose first choice is from number `low` on, and below `high`; and the empty one.
+    pub(crate) fn bounded(self, low: usize, high: usize) -> Self
+        ensures { result ≡ record self.entry { low = low; high = high } }
+    {
+        Space {
+            cart: self.cart,
+            start: self.start,
+            choices: self.choices,
+            hold: self.hold,
+            low,
+            high,
+        }
+    }
+
+    /// A part of the whole space, whichever part of it this is: the sequences whose first choice is one of the part's. Each part has the empty sequence.
+    /// `None` where there is no such part.
+    pub fn in_part(self, part: SpacePart) -> Option<Self>
+        // A part has its share of the first choices, and all choices after them.
+        // Refused: part_of_a_space_is_all_of_it.
+        ensures part { IfSome result (λ space. IsPart part.number part.of) }
+        ensures some { IfSome result (λ space. space ≡ part_of self.entry part.number part.of) }
+        ensures none { IfNone result (IsPart part.number part.of → ⊥) }
+    {
+        let (low, high) = part.first_choices(self.choice_count())?;
+        Some(self.bounded(low, high))
     }
 
     /// How many choices there are.
@@ -67,6 +104,25 @@ impl<'a, C: Allocator> Space<'a, C> {
         ensures { result ≡ length self.now.choices }
     {
         self.choices.len()
+    }
+
+    /// The number of the first choice that can come after `after` others.
+    pub(crate) fn low_at(&self, after: usize) -> usize
+        ensures { result ≡ low_at self.now after }
+    {
+        if after == 0 { self.low } else { 0 }
+    }
+
+    /// How many choices can come after `after` others.
+    pub(crate) fn count_at(&self, after: usize) -> usize
+        ensures count { result ≡ count_at self.now after }
+        ensures fits { low_at self.now after + result < 2 ^ 64 }
+    {
+        if after == 0 {
+            self.high.saturating_sub(self.low)
+        } else {
+            self.choice_count()
+        }
     }
 
     /// The state that the search starts from.

@@ -6,16 +6,17 @@ use std::alloc::Global;
 use std::io::sink;
 use std::process::Abort;
 use std::thread::Threads;
+use std::time::Clock;
 use tas_language::{Change, change_line, read_change};
 use tas_movie::{Edit, Inputs, Movie, apply, check, print_frame};
 use tas_search::{
-    Found, SearchFault, SearchRange, Space, find_goal, read_goal, read_names, search_movie,
-    state_at, stick_choices,
+    Found, SearchFault, SearchRange, Space, SpacePart, find_goal, read_goal, read_names,
+    search_movie, state_at, stick_choices,
 };
 use vcs_machine::{Input, State};
 
 /// The choices of the best sequence, where there is one.
-fn found<R: Abort + Threads + Sync>(
+fn found<R: Abort + Threads + Clock + Sync>(
     rt: &R,
     alloc: Global,
     space: &Space<'_, Global>,
@@ -91,7 +92,7 @@ fn make<R: Abort>(rt: &R, alloc: Global, movie: &mut Movie, changes: &[Change]) 
 
 /// Searches a movie of `len` frames from frame 3 on for what a text asks, writes what was found into it, and plays it to the end of that:
 /// the number at 80 then.
-fn played<R: Abort + Threads + Sync>(
+fn played<R: Abort + Threads + Clock + Sync>(
     rt: &R,
     alloc: Global,
     len: usize,
@@ -107,6 +108,7 @@ fn played<R: Abort + Threads + Sync>(
         hold,
         states: 100,
         workers: 3,
+        part: SpacePart::whole(),
     };
     let (found, changes) = expect_ok(
         rt,
@@ -160,12 +162,13 @@ fn what_was_found_is_written_into_a_movie(rt: HostRuntime) {
 }
 
 /// How the search for `n == 4` over a movie of five frames ends: how many choices were found and how many changes, or the fault.
-fn searched<R: Abort + Threads + Sync>(
+fn searched<R: Abort + Threads + Clock + Sync>(
     rt: &R,
     alloc: Global,
     from: usize,
     count: usize,
     hold: usize,
+    part: SpacePart,
 ) -> Result<(Option<usize>, usize), SearchFault> {
     let movie = still(rt, alloc, COUNTER, 5);
     let names = expect_ok(rt, read_names(alloc, b"n 80\n"));
@@ -176,6 +179,7 @@ fn searched<R: Abort + Threads + Sync>(
         hold,
         states: 100,
         workers: 3,
+        part,
     };
     let (found, changes) = search_movie(
         rt,
@@ -212,7 +216,50 @@ fn a_movie_is_searched(rt: HostRuntime) {
     .iter()
     .enumerate()
     {
-        let found = searched(&rt, alloc, *from, *count, *hold);
+        let found = searched(&rt, alloc, *from, *count, *hold, SpacePart::whole());
+        check_that(&rt, case, found == *wanted);
+    }
+}
+
+#[test]
+fn a_part_of_a_movie_s_space_is_searched(rt: HostRuntime) {
+    let alloc = rt.alloc();
+    // With three parts of three choices the second one begins with the stick to the right, and the third one with it to the left.
+    for (case, (from, count, hold, (number, of), wanted)) in [
+        (
+            1usize,
+            4usize,
+            1usize,
+            (2usize, 3usize),
+            Ok((Some(4usize), 4usize)),
+        ),
+        (1, 4, 1, (1, 3), Ok((None, 0))),
+        (1, 6, 1, (3, 3), Ok((Some(6), 7))),
+        (1, 4, 1, (1, 4), Ok((None, 0))),
+        (1, 4, 1, (3, 4), Ok((Some(4), 4))),
+        (1, 4, 1, (0, 3), Err(SearchFault::Part)),
+        (1, 4, 1, (4, 3), Err(SearchFault::Part)),
+        (1, 4, 1, (0, 0), Err(SearchFault::Part)),
+        (1, 4, 1, (1, 0), Err(SearchFault::Part)),
+        (5, usize::MAX, 1, (2, 1), Err(SearchFault::Part)),
+        (5, usize::MAX, 0, (2, 1), Err(SearchFault::Hold)),
+        (6, usize::MAX, 0, (2, 1), Err(SearchFault::Short(5))),
+        (
+            5,
+            usize::MAX,
+            1,
+            (usize::MAX, usize::MAX),
+            Err(SearchFault::Long),
+        ),
+    ]
+    .iter()
+    .enumerate()
+    {
+        let part = SpacePart {
+            number: *number,
+            of: *of,
+        };
+        let found = searched(&rt, alloc, *from, *count, *hold, part);
         check_that(&rt, case, found == *wanted);
     }
 }

@@ -12,6 +12,10 @@ mod goal_text_tests;
 #[cfg(test)]
 mod goals;
 #[cfg(test)]
+mod growth_tests;
+#[cfg(test)]
+mod part_tests;
+#[cfg(test)]
 mod plain;
 #[cfg(test)]
 mod report_tests;

@@ -41,7 +41,19 @@ pub fn counter_after(
     Some(state.ram()[0])
 }
 
-/// The first of the shortest sequences after which the byte at 80 is a number.
+/// The numbers of all three choices.
+pub const ALL: &[usize] = &[0, 1, 2];
+
+/// Whether a sequence begins with one of these choices, or with none.
+fn begins(choices: &[usize], firsts: &[usize]) -> bool {
+    match choices.first() {
+        Some(first) => firsts.iter().any(|one| one == first),
+        None => true,
+    }
+}
+
+/// The first of the shortest sequences after which the byte at 80 is a number, of those that begin with one of some choices and the empty
+/// one.
 pub fn shortest<R: Abort>(
     rt: &R,
     alloc: Global,
@@ -49,11 +61,14 @@ pub fn shortest<R: Abort>(
     inputs: &[Input; 3],
     hold: usize,
     number: u8,
+    firsts: &[usize],
 ) -> Option<Vec<usize>> {
     for (count, size) in SIZES.iter().enumerate() {
         for k in 0..*size {
             let choices = sequence(rt, alloc, k, count);
-            if counter_after(cart, inputs, hold, &choices) == Some(number) {
+            if begins(&choices, firsts)
+                && counter_after(cart, inputs, hold, &choices) == Some(number)
+            {
                 return Some(choices);
             }
         }
@@ -61,7 +76,7 @@ pub fn shortest<R: Abort>(
     None
 }
 
-/// The first of the sequences of five choices after which the byte at 80 is greatest, or least.
+/// The first of the sequences of five choices after which the byte at 80 is greatest, or least, of those that begin with one of some choices.
 pub fn extreme<R: Abort>(
     rt: &R,
     alloc: Global,
@@ -69,11 +84,15 @@ pub fn extreme<R: Abort>(
     inputs: &[Input; 3],
     hold: usize,
     aim: Aim,
+    firsts: &[usize],
 ) -> Option<Vec<usize>> {
     let mut best = None;
     let mut value: Option<u8> = None;
     for k in 0..243 {
         let choices = sequence(rt, alloc, k, 5);
+        if !begins(&choices, firsts) {
+            continue;
+        }
         let Some(other) = counter_after(cart, inputs, hold, &choices) else {
             continue;
         };

@@ -1,17 +1,33 @@
-//! The lines of a search's layers: their numbers, by hand, and writes of them that fail.
+//! The lines of a search's layers: their numbers, by hand, their rates by a clock that is read by the test, and writes of them that fail.
 
 use crate::checks::{check_same, check_that, expect_ok};
 use crate::goals::{COUNTER, TRAP, cart_of, counter_is, three_choices};
 use std::alloc::Global;
-use std::io::sink;
+use std::io;
 use std::process::Abort;
+use std::sync::atomic::{AtomicU64, Ordering};
 use std::thread::Threads;
+use std::time::{Clock, Duration};
 use tas_search::{Limits, Space, Unfinished, find_shortest};
 use test_streams::{Failure, Room, Taker};
 use vcs_machine::{Input, State};
 
+/// A report without its rates, which no two runs have in common.
+pub fn timeless<R: Abort>(rt: &R, alloc: Global, report: &[u8]) -> Vec<u8> {
+    let mut kept = Vec::new(alloc);
+    for line in expect_ok(rt, str::from_utf8(report)).split_inclusive('\n') {
+        let (front, end) = match line.strip_suffix(" frames a second\n") {
+            Some(counts) => (counts.rsplit_once(", ").unwrap_or((line, "")).0, "\n"),
+            None => (line, ""),
+        };
+        expect_ok(rt, kept.extend_from_slice(front.as_bytes()));
+        expect_ok(rt, kept.extend_from_slice(end.as_bytes()));
+    }
+    kept
+}
+
 /// What both writers get of a search from power-on for a number that no sequence reaches.
-fn lines<R: Abort + Threads + Sync>(
+fn lines<R: Abort + Threads + Clock + Sync>(
     rt: &R,
     alloc: Global,
     program: &[u8],
@@ -26,25 +42,36 @@ fn lines<R: Abort + Threads + Sync>(
     let end = find_shortest(rt, alloc, &space, &goal, limits, &mut shown, &mut kept);
     expect_ok(rt, end);
     check_same(rt, hold, shown.as_slice(), kept.as_slice());
-    kept
+    timeless(rt, alloc, kept.as_slice())
 }
 
 /// From power-on the first frame is a lag frame. After that each frame counts up, down or not at all, so there are two numbers more
 /// after each.
-const SINGLE: &[u8] = b"layer 1: 1 frames, 1 states, 2 merged, 1 played\n\
-layer 2: 2 frames, 3 states, 0 merged, 3 played\n\
-layer 3: 3 frames, 5 states, 4 merged, 9 played\n\
-layer 4: 4 frames, 7 states, 8 merged, 15 played\n";
+const SINGLE: &[u8] = b"layer 1: 1 frames, 1 states, 2 merged, 1 played, 512 bytes\n\
+layer 2: 2 frames, 3 states, 0 merged, 3 played, 1040 bytes\n\
+layer 3: 3 frames, 5 states, 4 merged, 9 played, 2080 bytes\n\
+layer 4: 4 frames, 7 states, 8 merged, 15 played, 3152 bytes\n";
 
 /// Of the first two frames the second one alone counts, and so does each after them.
-const DOUBLE: &[u8] = b"layer 1: 2 frames, 3 states, 0 merged, 6 played\n\
-layer 2: 4 frames, 7 states, 2 merged, 18 played\n";
+const DOUBLE: &[u8] = b"layer 1: 2 frames, 3 states, 0 merged, 6 played, 1024 bytes\n\
+layer 2: 4 frames, 7 states, 2 merged, 18 played, 2576 bytes\n";
+
+/// The first of these lines.
+const FIRST: &[u8] = b"layer 1: 2 frames, 3 states, 0 merged, 6 played, 1024 bytes\n";
+
+/// Fails where these aren't the first bytes of both lines, of the first one alone where there was less room than for it.
+fn check_cut<R: Abort>(rt: &R, alloc: Global, room: usize, taken: &[u8]) {
+    check_same(rt, room, taken.len(), room);
+    let taken = timeless(rt, alloc, taken);
+    check_that(rt, room, DOUBLE.starts_with(taken.as_slice()));
+    check_that(rt, room, (taken.len() > FIRST.len()) == (room >= 100));
+}
 
 /// To the right alone: the number is 2 after three frames, and there it halts.
-const HALTS: &[u8] = b"layer 1: 1 frames, 1 states, 0 merged, 1 played\n\
-layer 2: 2 frames, 1 states, 0 merged, 1 played\n\
-layer 3: 3 frames, 1 states, 0 merged, 1 played\n\
-layer 4: 4 frames, 0 states, 0 merged, 0 played\n";
+const HALTS: &[u8] = b"layer 1: 1 frames, 1 states, 0 merged, 1 played, 512 bytes\n\
+layer 2: 2 frames, 1 states, 0 merged, 1 played, 528 bytes\n\
+layer 3: 3 frames, 1 states, 0 merged, 1 played, 544 bytes\n\
+layer 4: 4 frames, 0 states, 0 merged, 0 played, 304 bytes\n";
 
 #[test]
 fn layers_have_their_numbers(rt: HostRuntime) {
@@ -54,7 +81,7 @@ fn layers_have_their_numbers(rt: HostRuntime) {
         for (case, (program, choices, hold, count, states, wanted)) in [
             (COUNTER, 3usize, 1usize, 4usize, 100usize, SINGLE),
             (COUNTER, 3, 2, 2, 100, DOUBLE),
-            (COUNTER, 3, 2, 2, 4, &DOUBLE[..48]),
+            (COUNTER, 3, 2, 2, 4, FIRST),
             (COUNTER, 3, 1, 0, 100, b""),
             (TRAP, 1, 1, 9, 100, HALTS),
             (
@@ -63,7 +90,7 @@ fn layers_have_their_numbers(rt: HostRuntime) {
                 1,
                 9,
                 100,
-                b"layer 1: 1 frames, 0 states, 0 merged, 0 played\n",
+                b"layer 1: 1 frames, 0 states, 0 merged, 0 played, 256 bytes\n",
             ),
         ]
         .iter()
@@ -82,6 +109,80 @@ fn layers_have_their_numbers(rt: HostRuntime) {
     }
 }
 
+/// A clock beside threads: it shows so many milliseconds more at each reading, or fails, where it has no such number.
+#[derive(Drop)]
+struct Ticking<'a, R> {
+    threads: &'a R,
+    step: Option<u64>,
+    readings: AtomicU64,
+}
+
+impl<R: Threads> Threads for Ticking<'_, R> {}
+
+impl<R> Clock for Ticking<'_, R> {
+    fn monotonic(&self) -> io::Result<Duration> {
+        let readings = self.readings.fetch_add(1, Ordering::SeqCst);
+        match self.step {
+            Some(step) => Ok(Duration::from_millis(readings.saturating_mul(step))),
+            None => Err(io::Error::from(io::ErrorKind::Other)),
+        }
+    }
+
+    fn since_1970(&self) -> io::Result<Duration> {
+        Ok(Duration::ZERO)
+    }
+}
+
+/// The lines of two layers, for which 6 and 18 frames are played, with their rates.
+const RATES: [(Option<u64>, &[u8]); 4] = [
+    (
+        Some(500),
+        b"layer 1: 2 frames, 3 states, 0 merged, 6 played, 1024 bytes, 12 frames a second\n\
+layer 2: 4 frames, 7 states, 2 merged, 18 played, 2576 bytes, 36 frames a second\n",
+    ),
+    (
+        Some(4_000),
+        b"layer 1: 2 frames, 3 states, 0 merged, 6 played, 1024 bytes, 1 frames a second\n\
+layer 2: 4 frames, 7 states, 2 merged, 18 played, 2576 bytes, 4 frames a second\n",
+    ),
+    (
+        Some(0),
+        b"layer 1: 2 frames, 3 states, 0 merged, 6 played, 1024 bytes, 0 frames a second\n\
+layer 2: 4 frames, 7 states, 2 merged, 18 played, 2576 bytes, 0 frames a second\n",
+    ),
+    (
+        None,
+        b"layer 1: 2 frames, 3 states, 0 merged, 6 played, 1024 bytes, 0 frames a second\n\
+layer 2: 4 frames, 7 states, 2 merged, 18 played, 2576 bytes, 0 frames a second\n",
+    ),
+];
+
+#[test]
+fn rates_are_by_the_clock(rt: HostRuntime) {
+    let alloc = rt.alloc();
+    let inputs = three_choices();
+    let cart = cart_of(&rt, alloc, COUNTER);
+    let space = Space::new(&cart, State::power_on(&cart), &inputs, 2);
+    let goal = counter_is(&rt, alloc, 99);
+    let limits = Limits {
+        count: 2,
+        states: 100,
+        workers: 2,
+    };
+    for (step, wanted) in RATES.iter() {
+        let clock = Ticking {
+            threads: &rt,
+            step: *step,
+            readings: AtomicU64::new(0),
+        };
+        let (mut shown, mut kept) = (Vec::new(alloc), Vec::new(alloc));
+        let end = find_shortest(&clock, alloc, &space, &goal, limits, &mut shown, &mut kept);
+        expect_ok(&rt, end);
+        check_same(&rt, *step, kept.as_slice(), *wanted);
+        check_same(&rt, *step, shown.as_slice(), *wanted);
+    }
+}
+
 #[test]
 fn lines_that_fail(rt: HostRuntime) {
     let alloc = rt.alloc();
@@ -94,19 +195,26 @@ fn lines_that_fail(rt: HostRuntime) {
         states: 100,
         workers: 2,
     };
-    for room in [0usize, 1, 30, 47, 48, 49, 90] {
+    // The first line has 78 bytes and the digits of its rate.
+    for room in [0usize, 1, 30, 59, 100, 120] {
         for failure in [Failure::Error, Failure::Interrupted, Failure::Nothing] {
+            let mut kept = Taker::new(alloc, 7, Room::Bytes(room), failure);
+            let mut shown = Vec::new(alloc);
+            let end = find_shortest(&rt, alloc, &space, &goal, limits, &mut shown, &mut kept);
+            check_that(&rt, room, end.err() == Some(Unfinished::Report));
+            check_cut(&rt, alloc, room, kept.taken.as_slice());
+            // A line is shown once it is in the report.
+            let shown = timeless(&rt, alloc, shown.as_slice());
+            let whole = if room < 100 { b"".as_slice() } else { FIRST };
+            check_same(&rt, room, shown.as_slice(), whole);
             let mut shown = Taker::new(alloc, 7, Room::Bytes(room), failure);
             let mut kept = Vec::new(alloc);
             let end = find_shortest(&rt, alloc, &space, &goal, limits, &mut shown, &mut kept);
             check_that(&rt, room, end.err() == Some(Unfinished::Report));
-            check_same(&rt, room, shown.taken.as_slice(), &DOUBLE[..room]);
-            // A line goes to the file once it was shown.
-            check_same(&rt, room, kept.len(), if room < 48 { 0 } else { 48 });
-            let mut file = Taker::new(alloc, 7, Room::Bytes(room), failure);
-            let end = find_shortest(&rt, alloc, &space, &goal, limits, &mut sink(), &mut file);
-            check_that(&rt, room, end.err() == Some(Unfinished::Report));
-            check_same(&rt, room, file.taken.as_slice(), &DOUBLE[..room]);
+            check_cut(&rt, alloc, room, shown.taken.as_slice());
+            let kept = timeless(&rt, alloc, kept.as_slice());
+            let whole = if room < 100 { FIRST } else { DOUBLE };
+            check_same(&rt, room, kept.as_slice(), whole);
         }
     }
 }

@@ -2,17 +2,18 @@
 
 use crate::checks::{check_same, check_that, expect_ok, expect_some};
 use crate::goals::{COUNTER, TRAP, cart_of, still, three_choices};
-use crate::plain::shortest;
+use crate::plain::{ALL, shortest};
 use std::alloc::Global;
 use std::io::sink;
 use std::process::Abort;
 use std::thread::Threads;
+use std::time::Clock;
 use tas_engines::{ReadFault, RunFault};
 use tas_language::{Change, change_line};
 use tas_movie::print_text;
 use tas_search::{
     ChoicesError, ChoicesFaultKind, GoalFault, NamesError, NamesFaultKind, Search, SearchError,
-    SearchFault, Wanted, search_run,
+    SearchFault, SpacePart, Wanted, search_run,
 };
 use test_streams::{Failure, Giver, Room, Taker};
 use vcs_machine::Input;
@@ -39,6 +40,7 @@ fn search(frames: usize, hold: usize, states: usize, goal: &[u8]) -> Search<'_> 
         hold,
         states,
         workers: 2,
+        part: SpacePart::whole(),
         has_choices: true,
         has_names: true,
         goal,
@@ -46,7 +48,7 @@ fn search(frames: usize, hold: usize, states: usize, goal: &[u8]) -> Search<'_> 
 }
 
 /// What a search writes and reports: the script, and after it the report.
-fn said<R: Abort + Threads + Sync>(
+fn said<R: Abort + Threads + Clock + Sync>(
     rt: &R,
     alloc: Global,
     search: &Search<'_>,
@@ -140,6 +142,93 @@ fn scripts_and_reports(rt: HostRuntime) {
     .enumerate()
     {
         let search = search(*frames, *hold, *states, goal);
+        let out = said(
+            &rt,
+            alloc,
+            &search,
+            &mut [image.as_slice(), CHOICES, b"n 80\n"],
+            movie.as_slice(),
+        );
+        check_same(&rt, case, out.as_slice(), *wanted);
+    }
+}
+
+/// Parts of a space of three choices, and what a search of each for two frames more to the right than to the left, in up to four frames,
+/// writes and reports.
+static PARTS: [(usize, usize, &[u8]); 12] = [
+    (
+        1,
+        1,
+        b"replace 3 1 R.... ..... .....\nreplace 4 1 R.... ..... .....\nbest of all 81 sequences\n",
+    ),
+    (
+        1,
+        2,
+        b"insert 5 1 ..... ..... .....\nreplace 3 1 ..... ..... .....\nreplace 4 1 R.... ..... .....\nreplace 5 1 R.... ..... .....\npart 1 of 2: best of all 27 sequences\n",
+    ),
+    (
+        2,
+        2,
+        b"replace 3 1 R.... ..... .....\nreplace 4 1 R.... ..... .....\npart 2 of 2: best of all 54 sequences\n",
+    ),
+    (
+        2,
+        3,
+        b"replace 3 1 R.... ..... .....\nreplace 4 1 R.... ..... .....\npart 2 of 3: best of all 27 sequences\n",
+    ),
+    (
+        3,
+        3,
+        b"insert 5 2 ..... ..... .....\nreplace 3 1 .L... ..... .....\nreplace 4 1 R.... ..... .....\nreplace 5 1 R.... ..... .....\nreplace 6 1 R.... ..... .....\npart 3 of 3: best of all 27 sequences\n",
+    ),
+    (
+        1,
+        4,
+        b"part 1 of 4: none: not one of all 0 sequences reaches it\n",
+    ),
+    (
+        2,
+        4,
+        b"insert 5 1 ..... ..... .....\nreplace 3 1 ..... ..... .....\nreplace 4 1 R.... ..... .....\nreplace 5 1 R.... ..... .....\npart 2 of 4: best of all 27 sequences\n",
+    ),
+    (
+        4,
+        7,
+        b"part 4 of 7: none: not one of all 0 sequences reaches it\n",
+    ),
+    (
+        5,
+        7,
+        b"replace 3 1 R.... ..... .....\nreplace 4 1 R.... ..... .....\npart 5 of 7: best of all 27 sequences\n",
+    ),
+    (
+        666_667,
+        1_000_000,
+        b"replace 3 1 R.... ..... .....\nreplace 4 1 R.... ..... .....\npart 666667 of 1000000: best of all 27 sequences\n",
+    ),
+    (
+        666_668,
+        1_000_000,
+        b"part 666668 of 1000000: none: not one of all 0 sequences reaches it\n",
+    ),
+    (
+        usize::MAX,
+        usize::MAX,
+        b"insert 5 2 ..... ..... .....\nreplace 3 1 .L... ..... .....\nreplace 4 1 R.... ..... .....\nreplace 5 1 R.... ..... .....\nreplace 6 1 R.... ..... .....\npart 18446744073709551615 of 18446744073709551615: best of all 27 sequences\n",
+    ),
+];
+
+#[test]
+fn parts_are_searched_alone(rt: HostRuntime) {
+    let alloc = rt.alloc();
+    let image = image_of(&rt, alloc, COUNTER);
+    let movie = text_of(&rt, alloc, COUNTER, 5);
+    for (case, (number, of, wanted)) in PARTS.iter().enumerate() {
+        let mut search = search(4, 1, 100, b"reach n == 2");
+        search.part = SpacePart {
+            number: *number,
+            of: *of,
+        };
         let out = said(
             &rt,
             alloc,
@@ -279,7 +368,7 @@ fn a_plain_search_finds_the_same(rt: HostRuntime) {
                 &mut [image.as_slice(), CHOICES, b"n 80\n"],
                 movie.as_slice(),
             );
-            let found = shortest(&rt, alloc, &cart, &inputs, hold, number);
+            let found = shortest(&rt, alloc, &cart, &inputs, hold, number, ALL);
             let wanted = script_of(&rt, alloc, &inputs, hold, found);
             check_same(&rt, (hold, number), out.as_slice(), wanted.as_slice());
         }
@@ -287,7 +376,7 @@ fn a_plain_search_finds_the_same(rt: HostRuntime) {
 }
 
 /// How a search of a movie of five frames ends that has a fault; nothing is written.
-fn fault<R: Abort + Threads + Sync>(
+fn fault<R: Abort + Threads + Clock + Sync>(
     rt: &R,
     alloc: Global,
     search: &Search<'_>,

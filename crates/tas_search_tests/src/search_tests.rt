@@ -2,11 +2,12 @@
 
 use crate::checks::{check_same, check_that, expect_ok};
 use crate::goals::{COUNTER, HIDDEN, TRAP, cart_of, counter, counter_is, limits, three_choices};
-use crate::plain::{extreme, shortest};
+use crate::plain::{ALL, extreme, shortest};
 use std::alloc::Global;
 use std::io::sink;
 use std::process::Abort;
 use std::thread::Threads;
+use std::time::Clock;
 use tas_movie::{Edit, Inputs, Movie, apply, check};
 use tas_search::{Aim, Found, Space, find_extreme, find_shortest, state_at};
 use vcs_machine::{Cart, State};
@@ -20,7 +21,7 @@ fn choices_of(found: &Found) -> Option<&[usize]> {
 }
 
 /// Whether two answers have the same choices, or none.
-fn is_same(found: &Found, wanted: &Option<Vec<usize>>) -> bool {
+pub fn is_same(found: &Found, wanted: &Option<Vec<usize>>) -> bool {
     match wanted {
         Some(choices) => choices_of(found) == Some(choices.as_slice()),
         None => matches!(found, Found::Nothing),
@@ -28,7 +29,12 @@ fn is_same(found: &Found, wanted: &Option<Vec<usize>>) -> bool {
 }
 
 /// Searches for each number, each choice held for `hold` frames, and compares with the plain search.
-fn check_numbers<R: Abort + Threads + Sync>(rt: &R, alloc: Global, cart: &Cart, hold: usize) {
+fn check_numbers<R: Abort + Threads + Clock + Sync>(
+    rt: &R,
+    alloc: Global,
+    cart: &Cart,
+    hold: usize,
+) {
     let inputs = three_choices();
     let space = Space::new(cart, State::power_on(cart), &inputs, hold);
     for number in [0u8, 1, 2, 3, 4, 5, 252, 253, 255] {
@@ -45,7 +51,7 @@ fn check_numbers<R: Abort + Threads + Sync>(rt: &R, alloc: Global, cart: &Cart, 
                 &mut sink(),
             ),
         );
-        let wanted = shortest(rt, alloc, cart, &inputs, hold, number);
+        let wanted = shortest(rt, alloc, cart, &inputs, hold, number, ALL);
         check_that(rt, number, is_same(&found, &wanted));
     }
 }
@@ -89,7 +95,10 @@ fn the_greatest_is_that_of_the_plain_search(rt: HostRuntime) {
         check_that(
             &rt,
             program.len(),
-            is_same(&found, &extreme(&rt, alloc, &cart, &inputs, 1, Aim::Most)),
+            is_same(
+                &found,
+                &extreme(&rt, alloc, &cart, &inputs, 1, Aim::Most, ALL),
+            ),
         );
     }
 }
@@ -432,7 +441,7 @@ fn changed_programs(rt: HostRuntime) {
                 &mut sink(),
             ),
         );
-        let wanted = shortest(&rt, alloc, &cart, &inputs, hold, number);
+        let wanted = shortest(&rt, alloc, &cart, &inputs, hold, number, ALL);
         check_that(&rt, case, is_same(&found, &wanted));
         for aim in [Aim::Most, Aim::Least] {
             let best = expect_ok(
@@ -448,7 +457,7 @@ fn changed_programs(rt: HostRuntime) {
                     &mut sink(),
                 ),
             );
-            let wanted = extreme(&rt, alloc, &cart, &inputs, hold, aim);
+            let wanted = extreme(&rt, alloc, &cart, &inputs, hold, aim, ALL);
             check_that(&rt, case, is_same(&best, &wanted));
             if choices_of(&best).is_some_and(|choices| choices.iter().any(|k| *k > 0)) {
                 chosen = chosen.saturating_add(1);

@@ -1,38 +1,42 @@
 -- Answers to requests.
-use Rattle.std.proofs.Common.{◌≡◌, ℕ, ◌+◌, ◌<◌, List, [], length, Bool, true, false, Option, Some, None, Result, Ok, Err, IfOk, inl, inr, refl, sym, ap, subst, ◌∙◌}
-use Rattle.std.specs.Prelude.{MatchResult, take, drop}
-use Rattle.std.proofs.lemmas.Bool.{lt-ltb}
-use Rattle.vcs_cpu.specs.declared.halt.Halt.{Halt}
+use Rattle.std.proofs.Common.{◌≡◌, ℕ, ◌+◌, ◌≤◌, List, [], length, true, false, Option, Some, Result, Ok, Err, IfOk, inl, inr, refl, sym, ap, subst, ◌∙◌}
+use Rattle.std.specs.Prelude.{MatchOption, MatchResult, take, drop}
 use Rattle.vcs_tia.specs.Image.{ppm_bytes}
-use Rattle.tas_movie.specs.Content.{MovieContent}
+use Rattle.tas_movie.specs.Content.{MovieContent, most_inputs}
 use Rattle.tas_movie.specs.Text.{text2}
-use Rattle.tas_green.specs.Run.{state_after, picture_of}
-use Rattle.tas_session.specs.Answers.{answer_shot, shown_of}
+use Rattle.tas_session.specs.declared.replies.Shot.{Shot as ShotOf}
+use Rattle.tas_session.specs.declared.replies.Reached.{Reached}
 use Rattle.tas_published.specs.History.{movie_of}
+use Rattle.tas_published.specs.Errors.{shot_error}
 use Rattle.tas_session.specs.Shots.{IsShotAt}
 use Rattle.tas_published.specs.declared.entry.Entry.{Entry}
 use Rattle.tas_published.specs.declared.errors.ShotError.{ShotError}
 use Rattle.tas_published.specs.declared.errors.ShotError.TheVariants.{NoEntry as NoShotEntry, NoFrame as NoShotFrame, Memory as NoShotMemory, Halted as ShotHalted}
+use Rattle.tas_published.specs.declared.errors.StateError.{StateError}
+use Rattle.tas_published.specs.declared.errors.StateError.TheVariants.{NoEntry as NoStateEntry, NoFrame as FewFrames, Memory as NoStateMemory}
 use Rattle.tas_desk.specs.Seats.{SeatContent, HasSeen, KeepsZone, IsZoneViewed}
-use Rattle.tas_desk.specs.Zones.{IsViewed, IsShared}
+use Rattle.tas_desk.specs.States.{IsStateFor, IsZoneReached}
+use Rattle.tas_desk.specs.Zones.{IsShared}
 use Rattle.tas_engines.specs.declared.fault.RunFault.{RunFault}
 use Rattle.tas_engines.specs.declared.fault.RunFault.TheVariants.{NoEntry, Memory, Foreign, Write, Size, Text, NoFrame as OffMovie, Range as OffRange, Halted as Stopped, HaltedFrame as StoppedFrame, Script, Place, Long, NoPlace}
 use Rattle.tas_language.specs.declared.command.Command.{Command}
 use Rattle.tas_language.specs.declared.retouch.Retouch.{Retouch as RetouchLine}
 use Rattle.tas_language.specs.declared.reply.Reply.{Reply}
-use Rattle.tas_language.specs.declared.reply.Reply.TheVariants.{NoFrame, OutOfMemory}
+use Rattle.tas_language.specs.declared.reply.Reply.TheVariants.{OutOfMemory}
 use Rattle.tas_language.specs.Replies.{reply_text}
 use Rattle.tas_language.specs.declared.request.Request.{Request}
-use Rattle.tas_language.specs.declared.request.Request.TheVariants.{Do, Retouch, Picture, Movie, States, Share, History}
+use Rattle.tas_language.specs.declared.request.Request.TheVariants.{Do, Retouch, Picture, Ram, Digest, Lag, Movie, States, Share, History}
 use Rattle.tas_language.specs.Answers.{picture_text, movie_text, states_text, share_text}
 use Rattle.tas_seat.specs.declared.edit_requests.EditRequest.TheVariants.{Retouch as RetouchAsked}
-use Rattle.tas_seat.specs.Turns.{standing_of, halted_reply}
-use Rattle.tas_seat.specs.Requests.{PictureLeaves, Gains, GainsUnless, answer_to_picture, kept_frames}
+use Rattle.tas_seat.specs.Turns.{standing_at, standing_of}
+use Rattle.tas_seat.specs.Requests.{Rests, Plays, Gains, GainsUnless, look_text, look_places, IsLooked, kept_frames}
 use Rattle.tas_seat.specs.HistoryText.{history_reply_text}
-use Rattle.tas_seat.specs.Seats.{talk_state_at, most_entries, KeepsWindow, PictureLeavesZone, IsAnswered}
-use Rattle.tas_seat.specs.Outcomes.{unshown_as, IsEditAnswered, IsMiscounted, IsUnanswered, HasAnswer, HasNoAnswer}
-use Rattle.tas_seat.proofs.SeatLemmas.{looked_at, rests, green_at, views_at, gains_at, answered_here}
-use Rattle.tas_seat.proofs.TextLemmas.{text_or_memory, made_or_memory, reply_or_fault}
+use Rattle.tas_seat.specs.Seats.{talk_state_at, most_entries, KeepsWindow, IsZonePlayed, LookLeavesZone, IsAnswered}
+use Rattle.tas_seat.specs.Outcomes.{IsEditAnswered, IsMiscounted, IsUnanswered, HasAnswer, KeepsSeat, HasNoAnswer}
+use Rattle.tas_seat.specs.Inside.Looking.{IsShotFound, IsStateFound, AsksForState, HasText, HasReport}
+use Rattle.tas_seat.proofs.SeatLemmas.{looked_at, rests, green_at, gains_at, answered_here}
+use Rattle.tas_seat.proofs.TextLemmas.{text_or_memory, made_or_memory}
+use Rattle.tas_seat.proofs.ReachLemmas.{few_inputs, lag_ignored, of_looks, looked_as, state_told, picture_told}
 
 -- ---- answers and faults
 
@@ -48,13 +52,6 @@ pub answered_or : {X E A : Type 0} (before now : SeatContent A) (request : Reque
     → MatchResult r (λ bytes. HasAnswer A before now request (bytes_of bytes)) (HasNoAnswer before now request)
 answered_or {X} {E} {A} before now request answer r bytes_of is told lost =
     made_or_memory (HasAnswer A before now request) (HasNoAnswer before now request) answer r bytes_of is told lost (λ has. inr (reply_text OutOfMemory, has))
-
--- a shot, or a look, that shows nothing
-pub shown_answered : {X A : Type 0} (before now : SeatContent A) (request : Request) (shown : Result Reply RunFault) (r : Result X RunFault) (bytes_of : X → List ℕ)
-    → MatchResult shown (λ reply. MatchResult r (λ bytes. bytes_of bytes ≡ reply_text reply) (λ fault. fault ≡ Memory)) (λ fault. r ≡ Err fault)
-    → MatchResult shown (λ reply. HasAnswer A before now request (reply_text reply)) (HasNoAnswer before now request)
-    → MatchResult r (λ bytes. HasAnswer A before now request (bytes_of bytes)) (HasNoAnswer before now request)
-shown_answered {X} {A} before now request shown r bytes_of is told = reply_or_fault (HasAnswer A before now request) (HasNoAnswer before now request) shown r bytes_of is told (λ text has. inr (text, has))
 
 pub unanswered : {A : Type 0} (before now : SeatContent A) (command : Command) (fault : RunFault) → IsUnanswered before now fault → HasNoAnswer before now (Do command) fault
 unanswered before now command NoEntry is = is
@@ -83,47 +80,68 @@ command_answered A before now command reply is = (_, record { at = is.at; answer
 pub retouch_answered : (A : Type 0) (before now : SeatContent A) (retouch : RetouchLine) (reply : Reply) → IsEditAnswered A before now (RetouchAsked retouch) reply → HasAnswer A before now (Retouch retouch) (reply_text reply)
 retouch_answered A before now retouch reply is = (_, record { at = is.at; answered = (reply, is.turn, refl, rests before now is.at now.front is.zone); made = refl; seat = is.seat; zone = is.zone; counts = tt })
 
--- ---- pictures
+-- ---- looks
 
-told_frame : (A : Type 0) (before now : SeatContent A) (k : ℕ) (no_memory : Bool) (found : Option (Result (List ℕ) Halt)) (answer : List ℕ) → HasSeen before now → answer_shot (movie_of now.front) k ≡ found
-    → answer ≡ answer_to_picture no_memory (standing_of now.front) k found → PictureLeaves no_memory (talk_state_at now.front before.zone) (talk_state_at now.front now.zone) k found → PictureLeavesZone before now k answer found
-    → HasAnswer A before now (Picture k) answer
-told_frame A before now k no_memory found answer seen there is leaves zone = (
-  [],
-  answered_here A before now (Picture k) answer seen (
-    no_memory,
-    is ∙ ap (answer_to_picture no_memory (standing_of now.front) k) (sym there),
-    refl,
-    subst (PictureLeaves no_memory (talk_state_at now.front before.zone) (talk_state_at now.front now.zone) k) (sym there) leaves,
-  ) (subst (PictureLeavesZone before now k answer) (sym there) zone) tt,
-)
+-- what was found at a seat, by what its desk says of the answer and of the zone
+drawn_here : {A B : Type 0} (before now : SeatContent A) (k : ℕ) (drawn : Result (ShotOf B) ShotError) → IsShotAt now.front k drawn → IsZoneViewed before now k drawn
+    → IsShotFound (standing_of now.front) (now ≡ before) (now.zone ≡ before.zone) (IsZonePlayed before.zone now.zone now.front k (k + 1)) k drawn
+drawn_here before now k (Ok shot) is zone = (is.0, is.1, is.2, record { made = zone.made; played = zone.view })
+drawn_here before now k (Err NoShotEntry) is zone = zone
+drawn_here before now k (Err (NoShotFrame at len)) is zone = (is.0, is.1, is.2, zone)
+drawn_here before now k (Err NoShotMemory) is zone = (is, zone)
+drawn_here before now k (Err (ShotHalted at halt)) is zone = (is.0, is.1, (zone.0, record { made = zone.1.made; played = zone.1.view }))
 
-pub picture_answered : (A : Type 0) (before now : SeatContent A) (k at ran : ℕ) (picture : List ℕ) → HasSeen before now → answer_shot (movie_of now.front) k ≡ Some (Ok picture) → at ≡ length now.front → IsViewed before.zone now.zone now.front k ran
-    → HasAnswer A before now (Picture k) (picture_text at k (ppm_bytes picture))
-picture_answered A before now k at ran picture seen shown here viewed =
-    told_frame A before now k false (Some (Ok picture)) (picture_text at k (ppm_bytes picture)) seen shown (ap (λ (n : ℕ). picture_text n k (ppm_bytes picture)) here) (viewed.view.rose, views_at before now now.front k ran viewed) (inl (ran, viewed))
+pub reached_here : {A : Type 0} (before now : SeatContent A) (from to : ℕ) (reached : Result Reached StateError) → IsStateFor now.front from to reached → IsZoneReached before now from reached
+    → IsStateFound (standing_of now.front) (now ≡ before) (now.zone ≡ before.zone) (IsZonePlayed before.zone now.zone now.front from from) from to reached
+reached_here before now from to (Ok found) is zone = (is.0, is.1, is.2, is.3, record { made = zone.made; played = zone.reach })
+reached_here before now from to (Err NoStateEntry) is zone = zone
+reached_here before now from to (Err (FewFrames at len)) is zone =
+    (λ order within. is.2 order (subst (λ (n : ℕ). to ≤ n) (sym is.1) within), is.0, is.1, subst (λ (n : ℕ). n ≤ most_inputs) (sym is.1) (few_inputs now.front), zone)
+reached_here before now from to (Err NoStateMemory) is zone = (is.0, is.1, zone)
 
-pub lost_picture : (A : Type 0) (before now : SeatContent A) (k ran : ℕ) (picture : List ℕ) → HasSeen before now → answer_shot (movie_of now.front) k ≡ Some (Ok picture) → IsViewed before.zone now.zone now.front k ran
-    → HasAnswer A before now (Picture k) (reply_text OutOfMemory)
-lost_picture A before now k ran picture seen shown viewed =
-    told_frame A before now k true (Some (Ok picture)) (reply_text OutOfMemory) seen shown refl (inr (viewed.view.rose, views_at before now now.front k ran viewed)) (inl (ran, viewed))
+-- the zone's movie is the history's then
+pub movie_here : {A : Type 0} (before now : SeatContent A) (name : MovieContent) (from : ℕ) (reached : Result Reached StateError) → name ≡ now.zone.movie → IsZoneReached before now from reached → IfOk reached (λ found. name ≡ movie_of now.front)
+movie_here before now name from (Ok found) is zone = is ∙ zone.made.movie
+movie_here before now name from (Err error) is zone = tt
 
--- what a frame shows that is there
-pub shown_frame : (movie : MovieContent) (k : ℕ) → k < length movie.inputs → answer_shot movie k ≡ Some (shown_of (state_after movie (k + 1)).halt (picture_of movie k))
-shown_frame movie k within = rw (lt-ltb k (length movie.inputs) within) refl
+-- a look is answered at what the seat has seen
+looked_here : (A : Type 0) (before now : SeatContent A) (look : Request) (at : ℕ × ℕ) (answer : List ℕ) → look_places look ≡ Some at → HasSeen before now
+    → IsLooked (standing_of now.front) (look_text (standing_of now.front) look) (now.zone ≡ before.zone) (IsZonePlayed before.zone now.zone now.front at.0 at.1) answer → HasAnswer A before now look answer
+looked_here A before now look at answer is seen told =
+    of_looks (λ (l : Request). LookLeavesZone before now l answer → HasAnswer A before now l answer) at look is
+    (λ k zone. ([], answered_here A before now (Picture k) answer seen (refl, seen_at (look_text (standing_of now.front) (Picture k)) (k, k + 1) zone) zone tt))
+    (λ k zone. ([], answered_here A before now (Ram k) answer seen (refl, seen_at (look_text (standing_of now.front) (Ram k)) (k, k) zone) zone tt))
+    (λ k zone. ([], answered_here A before now (Digest k) answer seen (refl, seen_at (look_text (standing_of now.front) (Digest k)) (k, k) zone) zone tt))
+    (λ a b zone. ([], answered_here A before now (Lag a b) answer seen ((refl, seen_at (look_text (standing_of now.front) (Lag a b)) (a, a) zone), lag_ignored (movie_of now.front)) zone tt))
+    (subst
+    (λ (o : Option (ℕ × ℕ)). MatchOption o (KeepsWindow before.zone now.zone) (λ f. IsLooked (standing_of now.front) (look_text (standing_of now.front) look) (now.zone ≡ before.zone) (IsZonePlayed before.zone now.zone now.front f.0 f.1) answer))
+    (sym is) told)
+  where
+    seen_at : (found : Option (List ℕ)) (f : ℕ × ℕ) → IsLooked (standing_of now.front) found (now.zone ≡ before.zone) (IsZonePlayed before.zone now.zone now.front f.0 f.1) answer
+        → IsLooked (standing_of now.front) found (Rests (talk_state_at now.front before.zone) (talk_state_at now.front now.zone)) (Plays (talk_state_at now.front before.zone) (talk_state_at now.front now.zone) f.0 f.1) answer
+    seen_at found f zone =
+        looked_as (standing_of now.front) found answer (now.zone ≡ before.zone) (Rests (talk_state_at now.front before.zone) (talk_state_at now.front now.zone)) (IsZonePlayed before.zone now.zone now.front f.0 f.1)
+        (Plays (talk_state_at now.front before.zone) (talk_state_at now.front now.zone) f.0 f.1) zone (rests before now now.front now.front) (λ ran played. (played.played.rose, record { green = green_at now.zone now.front played.made; played = played.played.played }))
 
--- a view without a picture
-pub undrawn : (A : Type 0) (before now : SeatContent A) (k : ℕ) (error : ShotError) → HasSeen before now → IsShotAt {B = A} now.front k (Err error) → IsZoneViewed {B = A} before now k (Err error)
-    → MatchResult (unshown_as error) (λ reply. HasAnswer A before now (Picture k) (reply_text reply)) (HasNoAnswer before now (Picture k))
-undrawn A before now k NoShotEntry seen shown zone = zone
-undrawn A before now k (NoShotFrame at len) seen shown zone =
-    told_frame A before now k false None (reply_text (NoFrame at len)) seen shown.0
-    (ap (λ (n : ℕ). reply_text (NoFrame n len)) shown.1 ∙ ap (λ (n : ℕ). reply_text (NoFrame (length now.front) n)) shown.2) (rests before now now.front now.front zone) zone
-undrawn A before now k NoShotMemory seen shown zone =
-    told_frame A before now k true _ (reply_text OutOfMemory) seen (shown_frame (movie_of now.front) k shown) refl (inl (rests before now now.front now.front zone)) (inr (refl, zone))
-undrawn A before now k (ShotHalted at halt) seen shown zone =
-    told_frame A before now k false (Some (Err halt)) (reply_text (halted_reply at halt)) seen shown.0 (ap (λ (n : ℕ). reply_text (halted_reply n halt)) shown.1)
-    (zone.1.view.rose, views_at before now now.front k zone.0 zone.1) (inl zone)
+-- or not at all
+kept_here : {A : Type 0} (before now : SeatContent A) (look : Request) (at : ℕ × ℕ) → look_places look ≡ Some at → now ≡ before → KeepsSeat look before now
+kept_here before now look at is same = of_looks (λ (l : Request). KeepsSeat l before now) at look is (λ k. same) (λ k. same) (λ k. same) (λ a b. same)
+
+pub picture_answered : {X A B : Type 0} (before now : SeatContent A) (k : ℕ) (drawn : Result (ShotOf B) ShotError) (r : Result X RunFault) (bytes_of : X → List ℕ) → HasSeen before now → IsShotAt now.front k drawn → IsZoneViewed before now k drawn
+    → MatchResult drawn (λ shot. HasText r bytes_of (Some (picture_text shot.at k (ppm_bytes shot.picture)))) (λ error. HasReport r bytes_of error)
+    → MatchResult r (λ bytes. HasAnswer A before now (Picture k) (bytes_of bytes)) (HasNoAnswer before now (Picture k))
+picture_answered {X} {A} before now k drawn r bytes_of seen is zone has =
+    picture_told (HasAnswer A before now (Picture k)) (HasNoAnswer before now (Picture k)) (movie_of now.front) (length now.front) k (now ≡ before) (now.zone ≡ before.zone) (IsZonePlayed before.zone now.zone now.front k (k + 1)) drawn r bytes_of
+    (drawn_here before now k drawn is zone) has (λ answer told. looked_here A before now (Picture k) (k, k + 1) answer refl seen told) (λ same. same) (λ answer told. inr (answer, told))
+
+pub look_answered : {X A : Type 0} (before now : SeatContent A) (name : MovieContent) (look : Request) (from to : ℕ) (reached : Result Reached StateError) (r : Result X RunFault) (bytes_of : X → List ℕ) → AsksForState look from to → HasSeen before now
+    → IsStateFor now.front from to reached → IsZoneReached before now from reached → name ≡ now.zone.movie
+    → MatchResult reached (λ found. HasText r bytes_of (look_text (standing_at name found.at) look)) (λ error. HasReport r bytes_of (shot_error error))
+    → MatchResult r (λ bytes. HasAnswer A before now look (bytes_of bytes)) (HasNoAnswer before now look)
+look_answered {X} {A} before now name look from to reached r bytes_of asks seen is zone named has =
+    state_told (HasAnswer A before now look) (HasNoAnswer before now look) (movie_of now.front) name (length now.front) look from to (now ≡ before) (now.zone ≡ before.zone) (IsZonePlayed before.zone now.zone now.front from from) reached r bytes_of asks
+    (reached_here before now from to reached is zone) (movie_here before now name from reached named zone) has (λ answer told. looked_here A before now look (from, from) answer asks.places seen told) (kept_here before now look (from, from) asks.places)
+    (λ answer told. inr (answer, told))
 
 -- ---- the desk's states
 

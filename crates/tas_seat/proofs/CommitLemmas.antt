@@ -18,8 +18,12 @@ use Rattle.tas_language.specs.declared.request.Request.TheVariants.{Do, Retouch,
 use Rattle.tas_published.specs.Strokes.{edited_by, refusal_in}
 use Rattle.tas_seat.specs.Turns.{standing_of, refusal_reply}
 use Rattle.tas_seat.specs.Seats.{entries_from, talk_state_at}
-use Rattle.tas_seat.specs.Drafts.{DraftContent, IsDraftAnswered, IsAnsweredInDraft, DraftPicture, AreDraftPictures, LeadsTo}
-use Rattle.tas_seat.specs.Conversations.{TalkingSeat, talking, begun_draft, IsCommitted, IsCommitAnswer, IsAnsweredOutside, IsAnsweredInside, IsTalkAnswered, IsLineAnswered, text_of, uncommitted_answer, committed_edits, draft_after_commit}
+use Rattle.tas_seat.specs.Requests.{StripAnswer, AreShown}
+use Rattle.tas_seat.specs.declared.conversation.Subject.{Subject}
+use Rattle.tas_seat.specs.declared.conversation.Subject.TheVariants as about
+use Rattle.tas_seat.specs.Subjects.{subject_of}
+use Rattle.tas_seat.specs.Drafts.{DraftContent, IsPictureIn, IsDraftAnswered, IsAnsweredInDraft, LeadsTo}
+use Rattle.tas_seat.specs.Conversations.{TalkingSeat, talking, begun_draft, IsCommitted, IsCommitAnswer, IsAnsweredOutsideOf, IsAnsweredInsideOf, IsTalkAnswered, IsLineAnswered, text_of, uncommitted_answer, committed_edits, draft_after_commit}
 use Rattle.tas_seat.specs.Talk.{Exchange, IsExchange, AreExchanges}
 use Rattle.tas_published.proofs.PrefixLemmas.{prefix_trans, prefix_whole}
 use Rattle.tas_seat.proofs.HistoryLemmas.{line_leaves}
@@ -34,8 +38,8 @@ pub record BeganAs (draft next : DraftContent) : Type 0 where
 began_as_in : (draft next : DraftContent) (request : Request) (answer : List ℕ) → IsAnsweredInDraft draft request answer next → BeganAs draft next
 began_as_in draft next request answer is = record { at = is.after.at; base = is.after.base }
 
-began_as_pictures : (draft last : DraftContent) (from : ℕ) (strip : List DraftPicture) → AreDraftPictures draft from strip last → BeganAs draft last
-unfolding AreDraftPictures
+began_as_pictures : (draft last : DraftContent) (from : ℕ) (strip : List (StripAnswer DraftContent)) → AreShown IsPictureIn draft from strip last → BeganAs draft last
+unfolding AreShown
 began_as_pictures draft last from [] is = record { at = ap (λ (d : DraftContent). d.at) is; base = ap (λ (d : DraftContent). d.base) is }
 began_as_pictures draft last from (shown ∷ strip) is =
     let first = began_as_in draft shown.next (Picture from) shown.answer is.0 in
@@ -90,31 +94,22 @@ tied_later seat now draft next more same tied = record {
 tied_still : {A : Type 0} (seat now : SeatContent A) (draft : DraftContent) → IsPrefix seat.front now.front → Begins seat draft → Begins now draft
 tied_still seat now draft more tied = tied_later seat now draft draft more (record { at = refl; base = refl }) tied
 
-tied_outside : (A : Type 0) (before : SeatContent A) (now : TalkingSeat A) (request : Request) (answer : List ℕ) (edits : List (Edit A)) → IsAnsweredOutside A before now request answer edits → IsTied now.seat now.draft
-tied_outside A before now Begin answer edits (is, none) = go is.answered.no_memory is.answered.draft_is
+tied_outside : (subject : Subject) (A : Type 0) (before : SeatContent A) (now : TalkingSeat A) (request : Request) (answer : List ℕ) (edits : List (Edit A)) → IsAnsweredOutsideOf subject A before now request answer edits → IsTied now.seat now.draft
+tied_outside about.Begin A before now request answer edits (is, none) = go is.answered.no_memory is.answered.draft_is
   where
     go : (no_memory : Bool) → now.draft ≡ begun_draft no_memory (talk_state_at now.seat.front now.seat.zone) is.answered.near → IsTied now.seat now.draft
     go true is = tied_as now.seat None now.draft is tt
     go false is = tied_as now.seat _ now.draft is (record { began = now.seat.front; begins = ([], append-nil now.seat.front); long = refl; base = refl })
-tied_outside A before now Commit answer edits is = tied_as now.seat None now.draft is.1 tt
-tied_outside A before now Drop answer edits is = tied_as now.seat None now.draft is.1 tt
-tied_outside A before now (Do command) answer edits is = tied_as now.seat None now.draft is.1 tt
-tied_outside A before now (Retouch retouch) answer edits is = tied_as now.seat None now.draft is.1 tt
-tied_outside A before now (Picture k) answer edits is = tied_as now.seat None now.draft is.1 tt
-tied_outside A before now (Pictures from to) answer edits is = tied_as now.seat None now.draft is.1 tt
-tied_outside A before now (Ram k) answer edits is = tied_as now.seat None now.draft is.1 tt
-tied_outside A before now (Digest k) answer edits is = tied_as now.seat None now.draft is.1 tt
-tied_outside A before now (Lag a b) answer edits is = tied_as now.seat None now.draft is.1 tt
-tied_outside A before now Movie answer edits is = tied_as now.seat None now.draft is.1 tt
-tied_outside A before now States answer edits is = tied_as now.seat None now.draft is.1 tt
-tied_outside A before now Share answer edits is = tied_as now.seat None now.draft is.1 tt
-tied_outside A before now (History from) answer edits is = tied_as now.seat None now.draft is.1 tt
-tied_outside A before now Quit answer edits is = tied_as now.seat None now.draft is.1 tt
+tied_outside about.Commit A before now request answer edits is = tied_as now.seat None now.draft is.1 tt
+tied_outside about.Drop A before now request answer edits is = tied_as now.seat None now.draft is.1 tt
+tied_outside about.Desk A before now request answer edits is = tied_as now.seat None now.draft is.1 tt
+tied_outside about.Movie A before now request answer edits is = tied_as now.seat None now.draft is.1 tt
+tied_outside about.End A before now request answer edits is = absurd is
 
-tied_inside : (A : Type 0) (before : SeatContent A) (draft : DraftContent) (now : TalkingSeat A) (request : Request) (answer : List ℕ) (edits : List (Edit A)) → IsAnsweredInside A before draft now request answer edits
+tied_inside : (subject : Subject) (A : Type 0) (before : SeatContent A) (draft : DraftContent) (now : TalkingSeat A) (request : Request) (answer : List ℕ) (edits : List (Edit A)) → IsAnsweredInsideOf subject A before draft now request answer edits
     → IsPrefix before.front now.seat.front → Begins before draft → IsTied now.seat now.draft
-tied_inside A before draft now Begin answer edits is more tied = tied_as now.seat (Some draft) now.draft is.1 (tied_still before now.seat draft more tied)
-tied_inside A before draft now Commit answer edits is more tied = go is.answered
+tied_inside about.Begin A before draft now request answer edits is more tied = tied_as now.seat (Some draft) now.draft is.1 (tied_still before now.seat draft more tied)
+tied_inside about.Commit A before draft now request answer edits is more tied = go is.answered
   where
     after : (outcome : Option (List ℕ)) → now.draft ≡ draft_after_commit outcome draft → IsTied now.seat now.draft
     after None e = tied_as now.seat None now.draft e tt
@@ -123,24 +118,15 @@ tied_inside A before draft now Commit answer edits is more tied = go is.answered
     go : IsCommitAnswer (standing_of is.at) draft answer edits now.draft → IsTied now.seat now.draft
     go (inl none) = tied_as now.seat (Some draft) now.draft none.draft_is (tied_still before now.seat draft more tied)
     go (inr told) = after (uncommitted_answer (standing_of is.at) draft.at told.stroke) told.draft_is
-tied_inside A before draft now Drop answer edits is more tied = tied_as now.seat None now.draft is.1 tt
-tied_inside A before draft now Share answer edits is more tied = tied_as now.seat (Some draft) now.draft is.1 (tied_still before now.seat draft more tied)
-tied_inside A before draft now (History from) answer edits is more tied = tied_as now.seat (Some draft) now.draft is.1 (tied_still before now.seat draft more tied)
-tied_inside A before draft now (Do command) answer edits (next, told, sound, is, left) more tied = tied_as now.seat (Some next) now.draft is (tied_later before now.seat draft next more (began_as draft next (Do command) answer told) tied)
-tied_inside A before draft now (Retouch retouch) answer edits (next, told, sound, is, left) more tied = tied_as now.seat (Some next) now.draft is (tied_later before now.seat draft next more (began_as draft next (Retouch retouch) answer told) tied)
-tied_inside A before draft now (Picture k) answer edits (next, told, sound, is, left) more tied = tied_as now.seat (Some next) now.draft is (tied_later before now.seat draft next more (began_as draft next (Picture k) answer told) tied)
-tied_inside A before draft now (Pictures from to) answer edits (next, told, sound, is, left) more tied = tied_as now.seat (Some next) now.draft is (tied_later before now.seat draft next more (began_as draft next (Pictures from to) answer told) tied)
-tied_inside A before draft now (Ram k) answer edits (next, told, sound, is, left) more tied = tied_as now.seat (Some next) now.draft is (tied_later before now.seat draft next more (began_as draft next (Ram k) answer told) tied)
-tied_inside A before draft now (Digest k) answer edits (next, told, sound, is, left) more tied = tied_as now.seat (Some next) now.draft is (tied_later before now.seat draft next more (began_as draft next (Digest k) answer told) tied)
-tied_inside A before draft now (Lag a b) answer edits (next, told, sound, is, left) more tied = tied_as now.seat (Some next) now.draft is (tied_later before now.seat draft next more (began_as draft next (Lag a b) answer told) tied)
-tied_inside A before draft now Movie answer edits (next, told, sound, is, left) more tied = tied_as now.seat (Some next) now.draft is (tied_later before now.seat draft next more (began_as draft next Movie answer told) tied)
-tied_inside A before draft now States answer edits (next, told, sound, is, left) more tied = tied_as now.seat (Some next) now.draft is (tied_later before now.seat draft next more (began_as draft next States answer told) tied)
-tied_inside A before draft now Quit answer edits (next, told, sound, is, left) more tied = tied_as now.seat (Some next) now.draft is (tied_later before now.seat draft next more (began_as draft next Quit answer told) tied)
+tied_inside about.Drop A before draft now request answer edits is more tied = tied_as now.seat None now.draft is.1 tt
+tied_inside about.Desk A before draft now request answer edits is more tied = tied_as now.seat (Some draft) now.draft is.1 (tied_still before now.seat draft more tied)
+tied_inside about.Movie A before draft now request answer edits (next, told, sound, is, left) more tied = tied_as now.seat (Some next) now.draft is (tied_later before now.seat draft next more (began_as draft next request answer told) tied)
+tied_inside about.End A before draft now request answer edits is more tied = absurd is
 
 tied_talk : (A : Type 0) (before : SeatContent A) (draft : Option DraftContent) (now : TalkingSeat A) (request : Request) (answer : List ℕ) (edits : List (Edit A)) → IsTalkAnswered A before draft now request answer edits
     → IsPrefix before.front now.seat.front → IsTied before draft → IsTied now.seat now.draft
-tied_talk A before None now request answer edits is more tied = tied_outside A before now request answer edits is
-tied_talk A before (Some draft) now request answer edits is more tied = tied_inside A before draft now request answer edits is more tied
+tied_talk A before None now request answer edits is more tied = tied_outside (subject_of request) A before now request answer edits is
+tied_talk A before (Some draft) now request answer edits is more tied = tied_inside (subject_of request) A before draft now request answer edits is more tied
 
 tied_line : (A : Type 0) (before now : TalkingSeat A) (heard : Option Request) (answer : List ℕ) (edits : List (Edit A)) → IsLineAnswered A before now heard answer edits → IsTied before.seat before.draft → IsTied now.seat now.draft
 tied_line A before now (Some request) answer edits is tied =

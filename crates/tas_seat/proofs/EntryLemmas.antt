@@ -7,7 +7,7 @@ use Rattle.tas_engines.specs.declared.fault.RunFault.TheVariants.{NoEntry, Forei
 use Rattle.tas_language.specs.declared.request.Request.{Request}
 use Rattle.tas_language.specs.declared.request.Request.TheVariants.{Do, Retouch, Picture, Pictures, Ram, Digest, Lag, Movie, States, Share, History, Begin, Commit, Drop, Quit}
 use Rattle.tas_seat.specs.declared.conversation.Subject.TheVariants.{Movie as AboutMovie}
-use Rattle.tas_seat.specs.Inside.Conversing.{subject_of}
+use Rattle.tas_seat.specs.Subjects.{subject_of}
 use Rattle.tas_seat.specs.Outcomes.{IsLook}
 
 -- other faults than `NoEntry`

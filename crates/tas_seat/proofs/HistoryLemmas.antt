@@ -16,8 +16,12 @@ use Rattle.tas_engines.specs.declared.fault.ReadFault.TheVariants.{TooLong, Fail
 use Rattle.tas_engines.specs.declared.fault.RunFault.TheVariants.{Write, Size, Text, NoFrame as OffMovie, Range as OffRange, Halted as Stopped, HaltedFrame as StoppedFrame, Script, Place, Long, NoPlace, NoEntry, Foreign, Memory}
 use Rattle.tas_language.specs.declared.request.Request.{Request}
 use Rattle.tas_language.specs.declared.request.Request.TheVariants.{Do, Retouch, Picture, Pictures, Ram, Digest, Lag, Movie, States, Share, History, Begin, Commit, Drop, Quit}
-use Rattle.tas_seat.specs.Seats.{entries_from, IsSeatAfter, IsAnsweredAt, StripAnswer, AreStrip, IsRequestAnswered}
-use Rattle.tas_seat.specs.Conversations.{TalkingSeat, talking, LeavesSeat, IsAnsweredOutside, IsAnsweredInside, IsTalkAnswered, IsLineAnswered}
+use Rattle.tas_seat.specs.Requests.{StripAnswer, AreShown}
+use Rattle.tas_seat.specs.Seats.{entries_from, IsSeatAfter, IsPictureAt, IsAnsweredAt, IsRequestAnswered}
+use Rattle.tas_seat.specs.declared.conversation.Subject.{Subject}
+use Rattle.tas_seat.specs.declared.conversation.Subject.TheVariants as about
+use Rattle.tas_seat.specs.Subjects.{subject_of}
+use Rattle.tas_seat.specs.Conversations.{TalkingSeat, talking, LeavesSeat, IsAnsweredOutsideOf, IsAnsweredInsideOf, IsTalkAnswered, IsLineAnswered}
 use Rattle.tas_seat.specs.Drafts.{DraftContent}
 use Rattle.tas_seat.specs.Outcomes.{IsMiscounted}
 use Rattle.tas_seat.specs.Talk.{Exchange, IsExchange, AreExchanges, IsLeft, HasDrawn, HasLooked, IsCarriedOut, TalkEnds, IsTalk, edits_of, all_edits}
@@ -154,8 +158,8 @@ leaves_more {A} start mid last edits others first rest =
 leaves_none : {A : Type 0} (start last : SeatContent A) (edits : List (Edit A)) → edits ≡ [] → Leaves start last [] → Leaves start last edits
 leaves_none {A} start last edits none = subst (λ (l : List (Edit A)). Leaves start last l) (sym none)
 
-pub strip_leaves : {A : Type 0} (start last : SeatContent A) (from : ℕ) (strip : List (StripAnswer A)) → AreStrip start from strip last → Leaves start last []
-unfolding AreStrip
+pub strip_leaves : {A : Type 0} (start last : SeatContent A) (from : ℕ) (strip : List (StripAnswer (SeatContent A))) → AreShown (IsPictureAt {A = A}) start from strip last → Leaves start last []
+unfolding AreShown
 strip_leaves start last from [] is = leaves_same start last is
 strip_leaves start last from (shown ∷ strip) is =
     leaves_more start shown.next last [] [] (leaves_after start shown.next is.0.at [] is.0.seat) (strip_leaves shown.next last (from + 1) strip is.1)
@@ -164,7 +168,7 @@ answered_leaves : (A : Type 0) (before now : SeatContent A) (request : Request) 
 answered_leaves A before now request answer edits is = leaves_after before now is.at edits is.seat
 
 request_leaves : (A : Type 0) (before now : SeatContent A) (request : Request) (answer : List ℕ) (edits : List (Edit A)) → IsRequestAnswered A before now request answer edits → Leaves before now edits
-request_leaves A before now (Pictures from to) answer edits (none, strip, long, are, told) = leaves_none before now edits none (strip_leaves before now from strip are)
+request_leaves A before now (Pictures from to) answer edits (none, (strip, long, are, told)) = leaves_none before now edits none (strip_leaves before now from strip are)
 request_leaves A before now (History from) answer edits (none, is) = leaves_none before now edits none (leaves_after before now now.front [] is.seat)
 request_leaves A before now (Do command) answer edits is = answered_leaves A before now (Do command) answer edits is
 request_leaves A before now (Retouch retouch) answer edits is = answered_leaves A before now (Retouch retouch) answer edits is
@@ -184,43 +188,26 @@ request_leaves A before now Quit answer edits is = answered_leaves A before now 
 seat_left : {A : Type 0} (before : SeatContent A) (now : TalkingSeat A) (edits : List (Edit A)) → LeavesSeat before now edits → Leaves before now.seat edits
 seat_left before now edits is = leaves_none before now.seat edits is.none (leaves_same before now.seat is.same)
 
-outside_leaves : (A : Type 0) (before : SeatContent A) (now : TalkingSeat A) (request : Request) (answer : List ℕ) (edits : List (Edit A)) → IsAnsweredOutside A before now request answer edits → Leaves before now.seat edits
-outside_leaves A before now Begin answer edits is = leaves_none before now.seat edits is.1 (leaves_after before now.seat now.seat.front [] is.0.seat)
-outside_leaves A before now Commit answer edits is = seat_left before now edits is.2
-outside_leaves A before now Drop answer edits is = seat_left before now edits is.2
-outside_leaves A before now (Do command) answer edits is = request_leaves A before now.seat (Do command) answer edits is.0
-outside_leaves A before now (Retouch retouch) answer edits is = request_leaves A before now.seat (Retouch retouch) answer edits is.0
-outside_leaves A before now (Picture k) answer edits is = request_leaves A before now.seat (Picture k) answer edits is.0
-outside_leaves A before now (Pictures from to) answer edits is = request_leaves A before now.seat (Pictures from to) answer edits is.0
-outside_leaves A before now (Ram k) answer edits is = request_leaves A before now.seat (Ram k) answer edits is.0
-outside_leaves A before now (Digest k) answer edits is = request_leaves A before now.seat (Digest k) answer edits is.0
-outside_leaves A before now (Lag a b) answer edits is = request_leaves A before now.seat (Lag a b) answer edits is.0
-outside_leaves A before now Movie answer edits is = request_leaves A before now.seat Movie answer edits is.0
-outside_leaves A before now States answer edits is = request_leaves A before now.seat States answer edits is.0
-outside_leaves A before now Share answer edits is = request_leaves A before now.seat Share answer edits is.0
-outside_leaves A before now (History from) answer edits is = request_leaves A before now.seat (History from) answer edits is.0
-outside_leaves A before now Quit answer edits is = request_leaves A before now.seat Quit answer edits is.0
+outside_leaves : (subject : Subject) (A : Type 0) (before : SeatContent A) (now : TalkingSeat A) (request : Request) (answer : List ℕ) (edits : List (Edit A)) → IsAnsweredOutsideOf subject A before now request answer edits → Leaves before now.seat edits
+outside_leaves about.Begin A before now request answer edits is = leaves_none before now.seat edits is.1 (leaves_after before now.seat now.seat.front [] is.0.seat)
+outside_leaves about.Commit A before now request answer edits is = seat_left before now edits is.2
+outside_leaves about.Drop A before now request answer edits is = seat_left before now edits is.2
+outside_leaves about.Desk A before now request answer edits is = request_leaves A before now.seat request answer edits is.0
+outside_leaves about.Movie A before now request answer edits is = request_leaves A before now.seat request answer edits is.0
+outside_leaves about.End A before now request answer edits is = absurd is
 
-inside_leaves : (A : Type 0) (before : SeatContent A) (draft : DraftContent) (now : TalkingSeat A) (request : Request) (answer : List ℕ) (edits : List (Edit A)) → IsAnsweredInside A before draft now request answer edits → Leaves before now.seat edits
-inside_leaves A before draft now Begin answer edits is = seat_left before now edits is.2
-inside_leaves A before draft now Commit answer edits is = leaves_after before now.seat is.at edits is.seat
-inside_leaves A before draft now Drop answer edits is = seat_left before now edits is.2
-inside_leaves A before draft now Share answer edits is = request_leaves A before now.seat Share answer edits is.0
-inside_leaves A before draft now (History from) answer edits is = request_leaves A before now.seat (History from) answer edits is.0
-inside_leaves A before draft now (Do command) answer edits is = seat_left before now edits is.4
-inside_leaves A before draft now (Retouch retouch) answer edits is = seat_left before now edits is.4
-inside_leaves A before draft now (Picture k) answer edits is = seat_left before now edits is.4
-inside_leaves A before draft now (Pictures from to) answer edits is = seat_left before now edits is.4
-inside_leaves A before draft now (Ram k) answer edits is = seat_left before now edits is.4
-inside_leaves A before draft now (Digest k) answer edits is = seat_left before now edits is.4
-inside_leaves A before draft now (Lag a b) answer edits is = seat_left before now edits is.4
-inside_leaves A before draft now Movie answer edits is = seat_left before now edits is.4
-inside_leaves A before draft now States answer edits is = seat_left before now edits is.4
-inside_leaves A before draft now Quit answer edits is = seat_left before now edits is.4
+inside_leaves : (subject : Subject) (A : Type 0) (before : SeatContent A) (draft : DraftContent) (now : TalkingSeat A) (request : Request) (answer : List ℕ) (edits : List (Edit A)) → IsAnsweredInsideOf subject A before draft now request answer edits
+    → Leaves before now.seat edits
+inside_leaves about.Begin A before draft now request answer edits is = seat_left before now edits is.2
+inside_leaves about.Commit A before draft now request answer edits is = leaves_after before now.seat is.at edits is.seat
+inside_leaves about.Drop A before draft now request answer edits is = seat_left before now edits is.2
+inside_leaves about.Desk A before draft now request answer edits is = request_leaves A before now.seat request answer edits is.0
+inside_leaves about.Movie A before draft now request answer edits is = seat_left before now edits is.4
+inside_leaves about.End A before draft now request answer edits is = absurd is
 
 talk_leaves : (A : Type 0) (before : SeatContent A) (draft : Option DraftContent) (now : TalkingSeat A) (request : Request) (answer : List ℕ) (edits : List (Edit A)) → IsTalkAnswered A before draft now request answer edits → Leaves before now.seat edits
-talk_leaves A before None now request answer edits is = outside_leaves A before now request answer edits is
-talk_leaves A before (Some draft) now request answer edits is = inside_leaves A before draft now request answer edits is
+talk_leaves A before None now request answer edits is = outside_leaves (subject_of request) A before now request answer edits is
+talk_leaves A before (Some draft) now request answer edits is = inside_leaves (subject_of request) A before draft now request answer edits is
 
 pub line_leaves : (A : Type 0) (before now : TalkingSeat A) (heard : Option Request) (answer : List ℕ) (edits : List (Edit A)) → IsLineAnswered A before now heard answer edits → Leaves before.seat now.seat edits
 line_leaves A before now (Some request) answer edits is = talk_leaves A before.seat before.draft now request answer edits is

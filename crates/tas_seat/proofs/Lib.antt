@@ -3,8 +3,8 @@ pub mod EditLemmas
 pub mod LookLemmas
 pub mod TextLemmas
 pub mod EntryLemmas
-pub mod AnswerLemmas
 pub mod ReachLemmas
+pub mod AnswerLemmas
 pub mod KeptLemmas
 pub mod StripLemmas
 pub mod HistoryTextLemmas
@@ -16,6 +16,5 @@ pub mod SubjectLemmas
 pub mod CommitLemmas
 pub mod DraftLemmas
 pub mod DraftEditLemmas
-pub mod DraftStripLemmas
 pub mod DraftWorkLemmas
 pub mod StrokeLemmas

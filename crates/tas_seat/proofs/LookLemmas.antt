@@ -1,18 +1,15 @@
 -- Commands that make no edit.
-use Rattle.std.proofs.Common.{◌≡◌, ℕ, ◌<◌, ◌≤◌, List, length, true, false, Some, None, Result, Ok, Err, inl, inr, refl, sym, ap, subst, ◌∙◌}
+use Rattle.std.proofs.Common.{◌≡◌, ℕ, ◌+◌, ◌≤◌, length, true, false, Some, None, Result, Ok, Err, inl, inr, refl, sym, ap, subst, ◌∙◌}
 use Rattle.std.specs.Prelude.{MatchResult}
-use Rattle.std.proofs.lemmas.Bool.{lt-ltb}
 use Rattle.std.proofs.lemmas.Option.{slice_get_past}
-use Rattle.vcs_cpu.specs.declared.halt.Halt.{Halt}
-use Rattle.vcs_cpu.specs.declared.halt.Halt.TheVariants.{Undocumented}
 use Rattle.vcs_tia.specs.Picture.{lit_count}
 use Rattle.vcs_inputs.specs.declared.input.Input.{Input}
 use Rattle.tas_published.specs.History.{movie_of}
 use Rattle.tas_published.specs.declared.errors.ShotError.{ShotError}
 use Rattle.tas_published.specs.declared.errors.ShotError.TheVariants.{NoEntry as NoShotEntry, NoFrame as NoShotFrame, Memory as NoShotMemory, Halted as ShotHalted}
 use Rattle.tas_session.specs.Shots.{IsShotAt, MatchPlayed}
+use Rattle.tas_session.specs.declared.replies.Shot.{Shot as ShotOf}
 use Rattle.tas_published.proofs.PrefixLemmas.{prefix_trans}
-use Rattle.tas_session.specs.Answers.{answer_shot}
 use Rattle.tas_published.specs.Looks.{answer_input}
 use Rattle.tas_published.specs.declared.errors.InputError.{InputError}
 use Rattle.tas_desk.specs.Seats.{SeatContent, HasSeen, KeepsZone, IsInput, IsZoneShot}
@@ -24,11 +21,14 @@ use Rattle.tas_language.specs.declared.command.Command.{Command}
 use Rattle.tas_language.specs.declared.command.Command.TheVariants.{Length, InputAt, Shot, Work}
 use Rattle.tas_language.specs.declared.reply.Reply.{Reply}
 use Rattle.tas_language.specs.declared.reply.Reply.TheVariants.{Measured, Pressed, NoFrame, Drawn, Worked, OutOfMemory}
-use Rattle.tas_seat.specs.Turns.{Unforeseen, standing_of, input_reply, halted_reply, shot_reply}
-use Rattle.tas_seat.specs.Seats.{IsAnswered}
+use Rattle.tas_seat.specs.Turns.{standing_of, input_reply}
+use Rattle.tas_seat.specs.Requests.{Rests, Plays}
+use Rattle.tas_seat.specs.Seats.{talk_state_at, IsAnswered}
 use Rattle.tas_seat.specs.Outcomes.{unshown_as, IsUnanswered}
+use Rattle.tas_seat.specs.Inside.Looking.{IsShotFound}
 use Rattle.tas_seat.proofs.SeatLemmas.{seen_more, looked_nothing, rests, plays_at, gains_at}
 use Rattle.tas_seat.proofs.EditLemmas.{unforeseen}
+use Rattle.tas_seat.proofs.ReachLemmas.{shot_told}
 
 pub length_answered : (A : Type 0) (before now : SeatContent A) (at len : ℕ) → KeepsZone before now → at ≡ length now.front → len ≡ length (movie_of now.front).inputs → IsAnswered A before now Length (Measured at len)
 length_answered A before now at len keeps here long = record {
@@ -70,66 +70,32 @@ no_input_answered A before now k at len keeps is =
 
 -- ---- shots
 
-pub shot_answered : (A : Type 0) (before now : SeatContent A) (k at frame ran lit : ℕ) (picture : List ℕ) → HasSeen before now → (answer_shot (movie_of now.front) k ≡ Some (Ok picture)) × (at ≡ length now.front) × (frame ≡ k)
-    → lit ≡ lit_count picture → IsPlayed before.zone now.zone now.front k ran → CutsWindow before.zone now.zone → IsAnswered A before now (Shot k) (Drawn at frame ran lit)
-shot_answered A before now k at frame ran lit picture seen is l played cut =
-    let u : Unforeseen = record { refused = false; ran = ran; kept = 0; stale = 0 } in
-    record {
-      at = now.front;
-      turn = (
-        u,
-        ap (λ (n : ℕ). Drawn n frame ran lit) is.1 ∙ ap (λ (n : ℕ). Drawn (length now.front) n ran lit) is.2 ∙ ap (Drawn (length now.front) k ran) l ∙ ap (shot_reply u (standing_of now.front) k) (sym is.0),
-        refl,
-      );
-      leaves = plays_at before now now.front k ran played;
-      seat = looked_nothing before now seen;
-      zone = inr cut;
-      counts = tt;
-    }
+drawn_here : {A B : Type 0} (before now : SeatContent A) (k : ℕ) (drawn : Result (ShotOf B) ShotError) → IsShotAt now.front k drawn → IsZoneShot before now k drawn → MatchPlayed drawn (CutsWindow before.zone now.zone) (now.zone ≡ before.zone)
+    → IsShotFound (standing_of now.front) (now ≡ before) (now.zone ≡ before.zone) (λ ran. IsPlayed before.zone now.zone now.front k ran × CutsWindow before.zone now.zone) k drawn
+drawn_here before now k (Ok shot) is zone cut = (is.0, is.1, is.2, (zone, cut))
+drawn_here before now k (Err NoShotEntry) is zone cut = zone
+drawn_here before now k (Err (NoShotFrame at len)) is zone cut = (is.0, is.1, is.2, zone)
+drawn_here before now k (Err NoShotMemory) is zone cut = (is, zone)
+drawn_here before now k (Err (ShotHalted at halt)) is zone cut = (is.0, is.1, (zone.0, (zone.1, cut)))
 
-no_frame_shot : (A : Type 0) (before now : SeatContent A) (k at len : ℕ) → HasSeen before now → (answer_shot (movie_of now.front) k ≡ None) × (at ≡ length now.front) × (len ≡ length (movie_of now.front).inputs) → now.zone ≡ before.zone
-    → IsAnswered A before now (Shot k) (NoFrame at len)
-no_frame_shot A before now k at len seen is zone = record {
-  at = now.front;
-  turn = (unforeseen false, ap (λ (n : ℕ). NoFrame n len) is.1 ∙ ap (NoFrame (length now.front)) is.2 ∙ ap (shot_reply (unforeseen false) (standing_of now.front) k) (sym is.0), refl);
-  leaves = rests before now now.front now.front zone;
-  seat = looked_nothing before now seen;
-  zone = inl zone;
-  counts = tt;
-}
-
-shot_without_memory : (A : Type 0) (before now : SeatContent A) (k : ℕ) → HasSeen before now → k < length (movie_of now.front).inputs → now.zone ≡ before.zone → IsAnswered A before now (Shot k) OutOfMemory
-shot_without_memory A before now k seen within zone = record {
-  at = now.front;
-  turn = (unforeseen true, rw (lt-ltb k (length (movie_of now.front).inputs) within) refl, refl);
-  leaves = rests before now now.front now.front zone;
-  seat = looked_nothing before now seen;
-  zone = inl zone;
-  counts = tt;
-}
-
-halted_shot : (A : Type 0) (before now : SeatContent A) (k at : ℕ) (halt : Halt) → HasSeen before now → (answer_shot (movie_of now.front) k ≡ Some (Err halt)) × (at ≡ length now.front) → (ran : ℕ) × IsPlayed before.zone now.zone now.front k ran
-    → CutsWindow before.zone now.zone → IsAnswered A before now (Shot k) (halted_reply at halt)
-halted_shot A before now k at (Undocumented address opcode) seen is played cut = record {
-  at = now.front;
-  turn = (unforeseen false, ap (λ (n : ℕ). halted_reply n (Undocumented address opcode)) is.1 ∙ ap (shot_reply (unforeseen false) (standing_of now.front) k) (sym is.0), refl);
-  leaves = (played.0, plays_at before now now.front k played.0 played.1);
-  seat = looked_nothing before now seen;
-  zone = inr cut;
-  counts = tt;
-}
-
-pub unshown : (A : Type 0) (before now : SeatContent A) (k : ℕ) (error : ShotError) (r : Result Reply RunFault) → HasSeen before now → IsShotAt {B = A} now.front k (Err error) → IsZoneShot {B = A} before now k (Err error)
-    → MatchPlayed {B = A} (Err error) (CutsWindow before.zone now.zone) (now.zone ≡ before.zone) → r ≡ unshown_as error
+pub shot_answered : {A B : Type 0} (before now : SeatContent A) (k : ℕ) (drawn : Result (ShotOf B) ShotError) (r : Result Reply RunFault) → HasSeen before now → IsShotAt now.front k drawn → IsZoneShot before now k drawn
+    → MatchPlayed drawn (CutsWindow before.zone now.zone) (now.zone ≡ before.zone) → MatchResult drawn (λ shot. r ≡ Ok (Drawn shot.at shot.frame shot.ran (lit_count shot.picture))) (λ error. r ≡ unshown_as error)
     → MatchResult r (IsAnswered A before now (Shot k)) (IsUnanswered before now)
-unshown A before now k error r seen shown zone window is = subst (λ (x : Result Reply RunFault). MatchResult x (IsAnswered A before now (Shot k)) (IsUnanswered before now)) (sym is) (go error shown zone window)
-  where
-    go : (x : ShotError) → IsShotAt {B = A} now.front k (Err x) → IsZoneShot {B = A} before now k (Err x) → MatchPlayed {B = A} (Err x) (CutsWindow before.zone now.zone) (now.zone ≡ before.zone)
-        → MatchResult (unshown_as x) (IsAnswered A before now (Shot k)) (IsUnanswered before now)
-    go NoShotEntry s z w = z
-    go (NoShotFrame at len) s z w = no_frame_shot A before now k at len seen s z
-    go NoShotMemory s z w = shot_without_memory A before now k seen s z
-    go (ShotHalted at halt) s z w = halted_shot A before now k at halt seen s z w
+shot_answered {A} before now k drawn r seen is zone cut has =
+    shot_told (IsAnswered A before now (Shot k)) (IsUnanswered before now) (movie_of now.front) (length now.front) k (now ≡ before) (now.zone ≡ before.zone) (Rests (talk_state_at now.front before.zone) (talk_state_at now.front now.zone))
+    (λ ran. IsPlayed before.zone now.zone now.front k ran × CutsWindow before.zone now.zone) (Plays (talk_state_at now.front before.zone) (talk_state_at now.front now.zone) k (k + 1)) drawn r (drawn_here before now k drawn is zone cut) has (rests before now now.front now.front)
+    (λ ran played. plays_at before now now.front k ran played.0)
+    (λ reply turn leaves kept. record {
+      at = now.front;
+      turn = turn;
+      leaves = leaves;
+      seat = looked_nothing before now seen;
+      zone = elim kept [
+        | inl same ↦ inl same
+        | inr played ↦ inr played.1.1
+      ];
+      counts = tt;
+    }) (λ same. same)
 
 -- ---- work
 

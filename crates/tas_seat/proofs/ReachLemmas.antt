@@ -1,15 +1,19 @@
--- Looks at the machine after a frame, or in some.
-use Rattle.std.proofs.Common.{◌≡◌, ℕ, ◌+◌, ◌%◌, ◌^◌, ◌<◌, ◌≤◌, Bool, cond, true, false, List, [], ◌∷◌, ◌++◌, length, take, drop, get_or, Option, Some, None, Result, Err, inl, inr, refl, sym, ap, subst, ◌∙◌, arith}
+-- Looks, wherever they are answered.
+use Rattle.std.proofs.Common.{◌≡◌, ℕ, ◌+◌, ◌%◌, ◌^◌, ◌<◌, ◌≤◌, Bool, cond, true, false, List, [], ◌∷◌, ◌++◌, length, take, drop, get_or, Option, Some, None, Result, Ok, Err, IfOk, ◌⊎◌, inl, inr, refl, sym, ap, subst, ◌∙◌, arith}
 use Rattle.std.specs.Prelude.{nat_le, nat_lt, ◌&&◌, if◌then◌else◌, MatchResult}
+use Rattle.std.specs.Option.{option_map}
 use Rattle.std.proofs.Math.Nat.{mod-eq_of_lt, mod_self}
 use Rattle.std.proofs.lemmas.Bool.{cases_lt, lt-ltb}
 use Rattle.std.proofs.lemmas.Bool.Decides.{nat_tests}
 use Rattle.std.proofs.lemmas.List.{length-append, length-take-le, length-drop}
-use Rattle.vcs_cpu.specs.declared.halt.Halt.{Halt}
+use Rattle.std.proofs.lemmas.Result.{MatchResult-weaker}
+use Rattle.vcs_cpu.specs.declared.halt.Halt.TheVariants.{Undocumented}
 use Rattle.vcs_inputs.specs.declared.input.Input.{Input}
 use Rattle.vcs_machine.specs.declared.state.State.{State}
 use Rattle.vcs_inputs.specs.Input.{no_input}
 use Rattle.vcs_machine.proofs.LagFrames.{lag_law}
+use Rattle.vcs_tia.specs.Image.{ppm_bytes}
+use Rattle.vcs_tia.specs.Picture.{lit_count}
 use Rattle.tas_movie.specs.Content.{MovieContent, most_inputs, blank_movie}
 use Rattle.tas_movie.specs.declared.edit.Edit.{Edit}
 use Rattle.tas_movie.specs.declared.edit.Edit.TheVariants.{Load, Insert, Replace, Delete}
@@ -20,39 +24,38 @@ use Rattle.tas_movie.proofs.EditLemmas.{place_within, insert_within, unrefused}
 use Rattle.tas_green.specs.Run.{state_after, picture_of}
 use Rattle.tas_published.specs.declared.entry.Entry.{Entry}
 use Rattle.tas_published.specs.declared.errors.ShotError.{ShotError}
+use Rattle.tas_published.specs.declared.errors.ShotError.TheVariants.{NoEntry as NoShotEntry, NoFrame as NoShotFrame, Memory as NoShotMemory, Halted as ShotHalted}
 use Rattle.tas_published.specs.declared.errors.StateError.{StateError}
 use Rattle.tas_published.specs.declared.errors.StateError.TheVariants.{NoEntry as NoStateEntry, NoFrame as FewFrames, Memory as NoStateMemory}
+use Rattle.tas_session.specs.declared.replies.Shot.{Shot as ShotOf}
+use Rattle.tas_session.specs.declared.replies.Reached.{Reached}
 use Rattle.tas_session.specs.Answers.{answer_shot, shown_of}
 use Rattle.tas_published.specs.History.{movie_from, movie_of}
 use Rattle.tas_published.specs.Errors.{shot_error}
-use Rattle.tas_desk.specs.Seats.{SeatContent, HasSeen}
-use Rattle.tas_desk.specs.States.{IsStateFor, IsReached, IsZoneReached}
 use Rattle.tas_engines.specs.Lag.{lag_lines_between, LagFramesIgnoreInput}
 use Rattle.tas_engines.specs.declared.fault.RunFault.{RunFault}
+use Rattle.tas_engines.specs.declared.fault.RunFault.TheVariants.{NoEntry, Memory}
+use Rattle.tas_language.specs.declared.command.Command.TheVariants.{Shot}
 use Rattle.tas_language.specs.declared.reply.Reply.{Reply}
-use Rattle.tas_language.specs.declared.reply.Reply.TheVariants.{NoFrame, OutOfMemory}
+use Rattle.tas_language.specs.declared.reply.Reply.TheVariants.{NoFrame, Drawn, OutOfMemory}
 use Rattle.tas_language.specs.Replies.{reply_text}
 use Rattle.tas_language.specs.declared.request.Request.{Request}
-use Rattle.tas_language.specs.declared.request.Request.TheVariants.{Ram, Digest, Lag}
-use Rattle.tas_language.specs.Answers.{ram_text, lag_text}
-use Rattle.tas_seat.specs.Turns.{standing_of}
-use Rattle.tas_seat.specs.Requests.{LookLeaves, answer_ram, answer_to_ram, answer_to_digest, drawn_digest, has_frames, answer_lag, answer_to_lag}
-use Rattle.tas_seat.specs.Seats.{talk_state_at, StateLeavesZone}
-use Rattle.tas_seat.specs.Outcomes.{unshown_as, IsDigest, HasAnswer, KeepsSeat, HasNoAnswer}
-use Rattle.tas_seat.proofs.SeatLemmas.{rests, reaches_at, answered_here}
-use Rattle.tas_seat.proofs.AnswerLemmas.{shown_frame}
+use Rattle.tas_language.specs.declared.request.Request.TheVariants.{Do, Retouch, Picture, Pictures, Ram, Digest, Lag, Movie, States, Share, History, Begin, Commit, Drop, Quit}
+use Rattle.tas_language.specs.Answers.{picture_text, ram_text, lag_text}
+use Rattle.tas_seat.specs.Turns.{Standing, Unforeseen, standing_at, halted_reply, shot_reply, IsTurn}
+use Rattle.tas_seat.specs.Requests.{ShotLeaves, picture_found, digest_found, look_text, look_places, IsLooked}
+use Rattle.tas_seat.specs.Outcomes.{unshown_as}
+use Rattle.tas_seat.specs.Inside.Looking.{IsShotFound, IsStateFound, CanLook, AsksForState, HasText, HasReport}
+use Rattle.tas_seat.proofs.EditLemmas.{unforeseen}
+use Rattle.tas_seat.proofs.TextLemmas.{text_or_memory}
 
 -- ---- what is there
 
-pub ram_there : (movie : MovieContent) (k : ℕ) → k ≤ length movie.inputs → answer_ram movie k ≡ Some (state_after movie k).riot.ram
-ram_there movie k le =
-    let yes : nat_le k (length movie.inputs) ≡ true = grind (arith, nat_tests) in ap (λ (b : Bool). if b then Some (state_after movie k).riot.ram else None) yes
+-- what a frame shows that is there
+pub shown_frame : (movie : MovieContent) (k : ℕ) → k < length movie.inputs → answer_shot movie k ≡ Some (shown_of (state_after movie (k + 1)).halt (picture_of movie k))
+shown_frame movie k within = rw (lt-ltb k (length movie.inputs) within) refl
 
-pub ram_none : (movie : MovieContent) (k : ℕ) → length movie.inputs < k → answer_ram movie k ≡ None
-ram_none movie k lt =
-    let never : nat_le k (length movie.inputs) ≡ false = grind (arith, nat_tests) in ap (λ (b : Bool). if b then Some (state_after movie k).riot.ram else None) never
-
-pub shot_none : (movie : MovieContent) (k : ℕ) → length movie.inputs ≤ k → answer_shot movie k ≡ None
+shot_none : (movie : MovieContent) (k : ℕ) → length movie.inputs ≤ k → answer_shot movie k ≡ None
 shot_none movie k le =
     let never : nat_lt k (length movie.inputs) ≡ false = grind (arith, nat_tests) in ap (λ (b : Bool). if b then Some (shown_of (state_after movie (k + 1)).halt (picture_of movie k)) else None) never
 
@@ -63,12 +66,6 @@ not_both : (p q : Bool) → (p ≡ true → q ≡ true → ⊥) → (p && q) ≡
 not_both true true never = absurd (never refl refl)
 not_both true false never = refl
 not_both false q never = refl
-
-frames_there : (len a b : ℕ) → a ≤ b → b ≤ len → has_frames len a b ≡ true
-frames_there len a b order within = both_true (nat_le a b) (nat_le b len) (grind (arith, nat_tests)) (grind (arith, nat_tests))
-
-frames_none : (len a b : ℕ) → (a ≤ b → b ≤ len → ⊥) → has_frames len a b ≡ false
-frames_none len a b never = not_both (nat_le a b) (nat_le b len) (λ (p : nat_le a b ≡ true) (q : nat_le b len ≡ true). never (grind (arith, nat_tests)) (grind (arith, nat_tests)))
 
 -- ---- a movie's length fits a word
 
@@ -110,11 +107,11 @@ unfolding movie_from
 few_from movie [] few = few
 few_from movie (entry ∷ entries) few = few_from (edited movie entry.edit) entries (few_changed movie entry.edit few (refusal movie entry.edit) refl)
 
-few_inputs : {A : Type 0} (history : List (Entry A)) → length (movie_of history).inputs ≤ most_inputs
+pub few_inputs : {A : Type 0} (history : List (Entry A)) → length (movie_of history).inputs ≤ most_inputs
 few_inputs history = few_from blank_movie history (omega arith)
 
 -- the place after a frame, modulo the words, is a place of the movie after it just where the movie has the frame
-pub next_place : (k n : ℕ) → k < 2 ^ 64 → k ≤ (k + 1) % 2 ^ 64 → (k + 1) % 2 ^ 64 ≤ n → k < n
+next_place : (k n : ℕ) → k < 2 ^ 64 → k ≤ (k + 1) % 2 ^ 64 → (k + 1) % 2 ^ 64 ≤ n → k < n
 next_place k n fits order within =
     elim (cases_lt (k + 1) (2 ^ 64)) [
       | inl small ↦ let is = mod-eq_of_lt small in omega (arith, is, within)
@@ -124,7 +121,7 @@ next_place k n fits order within =
           omega (arith, none, order, last)
     ]
 
-pub no_next_place : (k n : ℕ) → n ≤ most_inputs → (k ≤ (k + 1) % 2 ^ 64 → (k + 1) % 2 ^ 64 ≤ n → ⊥) → n ≤ k
+no_next_place : (k n : ℕ) → n ≤ most_inputs → (k ≤ (k + 1) % 2 ^ 64 → (k + 1) % 2 ^ 64 ≤ n → ⊥) → n ≤ k
 no_next_place k n few never =
     elim (cases_lt k n) [
       | inl within ↦
@@ -133,141 +130,178 @@ no_next_place k n few never =
       | inr past ↦ past
     ]
 
--- ---- a look that reached nothing
+-- ---- what looks at a state ask for
 
--- what a request is answered where the movie hasn't the frames, and where memory was refused
-unreached : (A : Type 0) (before now : SeatContent A) (request : Request) (from to : ℕ) (error : StateError) → HasSeen before now → IsStateFor now.front from to (Err error) → IsZoneReached before now from (Err error)
-    → (now ≡ before → KeepsSeat request before now)
-    → ((from ≤ to → to ≤ length (movie_of now.front).inputs → ⊥) → now.zone ≡ before.zone → HasAnswer A before now request (reply_text (NoFrame (length now.front) (length (movie_of now.front).inputs))))
-    → (from ≤ to → to ≤ length (movie_of now.front).inputs → now.zone ≡ before.zone → HasAnswer A before now request (reply_text OutOfMemory))
-    → MatchResult (unshown_as (shot_error error)) (λ reply. HasAnswer A before now request (reply_text reply)) (HasNoAnswer before now request)
-unreached A before now request from to NoStateEntry seen reply zone kept few lost = kept zone
-unreached A before now request from to (FewFrames at len) seen reply zone kept few lost =
-    subst (λ (n : ℕ). HasAnswer A before now request (reply_text (NoFrame n len))) (sym reply.0)
-    (subst (λ (n : ℕ). HasAnswer A before now request (reply_text (NoFrame (length now.front) n))) (sym reply.1)
-    (few (λ (order : from ≤ to) (within : to ≤ length (movie_of now.front).inputs). reply.2 order (subst (λ (n : ℕ). to ≤ n) (sym reply.1) within)) zone))
-unreached A before now request from to NoStateMemory seen reply zone kept few lost = lost reply.0 reply.1 zone
+pub ram_there : (stands : Standing) (k : ℕ) → k ≤ length stands.movie.inputs → look_text stands (Ram k) ≡ Some (ram_text stands.made k (state_after stands.movie k).riot.ram)
+ram_there stands k within =
+    let yes : nat_le k (length stands.movie.inputs) ≡ true = grind (arith, nat_tests) in ap (λ (b : Bool). if b then Some (ram_text stands.made k (state_after stands.movie k).riot.ram) else None) yes
 
--- another name of the error
-pub shown_as : (shown : ShotError) (error : StateError) (P : Reply → Type 0) (Q : RunFault → Type 0) → shown ≡ shot_error error → MatchResult (unshown_as (shot_error error)) P Q → MatchResult (unshown_as shown) P Q
-shown_as shown error P Q is found = subst (λ (x : ShotError). MatchResult (unshown_as x) P Q) (sym is) found
-
--- ---- `ram K`
-
-ram_answered_as : (A : Type 0) (before now : SeatContent A) (k : ℕ) (no_memory : Bool) (found : Option (List ℕ)) (answer : List ℕ) → HasSeen before now → answer_ram (movie_of now.front) k ≡ found
-    → answer ≡ answer_to_ram no_memory (standing_of now.front) k found → LookLeaves no_memory (talk_state_at now.front before.zone) (talk_state_at now.front now.zone) k found → StateLeavesZone before now k answer found
-    → HasAnswer A before now (Ram k) answer
-ram_answered_as A before now k no_memory found answer seen there is leaves window = (
-  [],
-  answered_here A before now (Ram k) answer seen (
-    no_memory,
-    is ∙ ap (answer_to_ram no_memory (standing_of now.front) k) (sym there),
-    refl,
-    subst (LookLeaves no_memory (talk_state_at now.front before.zone) (talk_state_at now.front now.zone) k) (sym there) leaves,
-  ) (subst (λ (f : Option (List ℕ)). StateLeavesZone before now k answer f) (sym there) window) tt,
-)
-
-pub unreached_ram : (A : Type 0) (before now : SeatContent A) (k : ℕ) (error : StateError) → HasSeen before now → IsStateFor now.front k k (Err error) → IsZoneReached before now k (Err error)
-    → MatchResult (unshown_as (shot_error error)) (λ reply. HasAnswer A before now (Ram k) (reply_text reply)) (HasNoAnswer before now (Ram k))
-unreached_ram A before now k error seen reply zone =
-    unreached A before now (Ram k) k k error seen reply zone (λ same. same)
-    (λ never same. ram_answered_as A before now k false None _ seen (ram_none (movie_of now.front) k (past never)) refl (rests before now now.front now.front same) same)
-    (λ order within same. ram_answered_as A before now k true _ _ seen (ram_there (movie_of now.front) k within) refl (inl (rests before now now.front now.front same)) (inr (refl, same)))
-  where
-    past : (k ≤ k → k ≤ length (movie_of now.front).inputs → ⊥) → length (movie_of now.front).inputs < k
-    past never = elim (cases_lt (length (movie_of now.front).inputs) k) [
+ram_none : (stands : Standing) (k : ℕ) → (k ≤ k → k ≤ length stands.movie.inputs → ⊥) → look_text stands (Ram k) ≡ None
+ram_none stands k never =
+    let past : length stands.movie.inputs < k = elim (cases_lt (length stands.movie.inputs) k) [
       | inl lt ↦ lt
       | inr le ↦ absurd (never (omega arith) le)
-    ]
+    ] in
+    let no : nat_le k (length stands.movie.inputs) ≡ false = grind (arith, nat_tests) in
+    ap (λ (b : Bool). if b then Some (ram_text stands.made k (state_after stands.movie k).riot.ram) else None) no
 
-pub ram_answered : (A : Type 0) (before now : SeatContent A) (k at ran : ℕ) (state : State) (ram : List ℕ) → HasSeen before now → k ≤ length (movie_of now.front).inputs → state ≡ state_after (movie_of now.front) k → at ≡ length now.front
-    → IsReached before.zone now.zone now.front k ran → ram ≡ state.riot.ram → HasAnswer A before now (Ram k) (ram_text at k ram)
-ram_answered A before now k at ran state ram seen within is here reached same =
-    ram_answered_as A before now k false _ (ram_text at k ram) seen (ram_there (movie_of now.front) k within)
-    (ap (λ (n : ℕ). ram_text n k ram) here ∙ ap (ram_text (length now.front) k) (same ∙ ap (λ (s : State). s.riot.ram) is)) (reached.reach.rose, reaches_at before now now.front k ran reached) (inl (ran, reached))
+pub ram_asks : (k : ℕ) → AsksForState (Ram k) k k
+ram_asks k = record { places = refl; can = λ movie order within. (within, refl); found = λ stands order within. (_, ram_there stands k within); none = λ stands few never. ram_none stands k never }
 
-pub lost_ram : (A : Type 0) (before now : SeatContent A) (k ran : ℕ) → HasSeen before now → k ≤ length (movie_of now.front).inputs → IsReached before.zone now.zone now.front k ran → HasAnswer A before now (Ram k) (reply_text OutOfMemory)
-lost_ram A before now k ran seen within reached =
-    ram_answered_as A before now k true _ _ seen (ram_there (movie_of now.front) k within) refl (inr (reached.reach.rose, reaches_at before now now.front k ran reached)) (inl (ran, reached))
+pub digest_asks : (k to : ℕ) → k < 2 ^ 64 → to ≡ (k + 1) % 2 ^ 64 → AsksForState (Digest k) k to
+digest_asks k to fits next = record {
+  places = refl;
+  can = λ movie order within. (has (length movie.inputs) order within, refl);
+  found = λ stands order within. (_, ap (option_map (digest_found stands k)) (shown_frame stands.movie k (has (length stands.movie.inputs) order within)));
+  none = λ stands few never. ap (option_map (digest_found stands k)) (shot_none stands.movie k (no_next_place k (length stands.movie.inputs) few (subst (λ (t : ℕ). k ≤ t → t ≤ length stands.movie.inputs → ⊥) next never)));
+}
+  where
+    has : (n : ℕ) → k ≤ to → to ≤ n → k < n
+    has n order within = next_place k n fits (subst (λ (t : ℕ). k ≤ t) next order) (subst (λ (t : ℕ). t ≤ n) next within)
 
--- ---- `digest K`
+pub lag_there : (stands : Standing) (a b : ℕ) → a ≤ b → b ≤ length stands.movie.inputs → look_text stands (Lag a b) ≡ Some (lag_text stands.made a b (lag_lines_between stands.movie a b))
+lag_there stands a b order within =
+    ap (λ (t : Bool). if t then Some (lag_text stands.made a b (lag_lines_between stands.movie a b)) else None) (both_true (nat_le a b) (nat_le b (length stands.movie.inputs)) (grind (arith, nat_tests)) (grind (arith, nat_tests)))
 
-digest_answered_as : (A : Type 0) (before now : SeatContent A) (k : ℕ) (no_memory : Bool) (found : Option (Result (List ℕ) Halt)) (answer : List ℕ) → HasSeen before now → answer_shot (movie_of now.front) k ≡ found
-    → answer ≡ answer_to_digest no_memory (standing_of now.front) k found → LookLeaves no_memory (talk_state_at now.front before.zone) (talk_state_at now.front now.zone) k found → StateLeavesZone before now k answer found
-    → HasAnswer A before now (Digest k) answer
-digest_answered_as A before now k no_memory found answer seen there is leaves window = (
-  [],
-  answered_here A before now (Digest k) answer seen (
-    no_memory,
-    is ∙ ap (answer_to_digest no_memory (standing_of now.front) k) (sym there),
-    refl,
-    subst (LookLeaves no_memory (talk_state_at now.front before.zone) (talk_state_at now.front now.zone) k) (sym there) leaves,
-  ) (subst (λ (f : Option (Result (List ℕ) Halt)). StateLeavesZone before now k answer f) (sym there) window) tt,
-)
+lag_none : (stands : Standing) (a b : ℕ) → (a ≤ b → b ≤ length stands.movie.inputs → ⊥) → look_text stands (Lag a b) ≡ None
+lag_none stands a b never =
+    ap (λ (t : Bool). if t then Some (lag_text stands.made a b (lag_lines_between stands.movie a b)) else None)
+    (not_both (nat_le a b) (nat_le b (length stands.movie.inputs)) (λ (p : nat_le a b ≡ true) (q : nat_le b (length stands.movie.inputs) ≡ true). never (grind (arith, nat_tests)) (grind (arith, nat_tests))))
 
-pub unreached_digest : (A : Type 0) (before now : SeatContent A) (k to : ℕ) (error : StateError) → k < 2 ^ 64 → to ≡ (k + 1) % 2 ^ 64 → HasSeen before now → IsStateFor now.front k to (Err error) → IsZoneReached before now k (Err error)
-    → MatchResult (unshown_as (shot_error error)) (λ reply. HasAnswer A before now (Digest k) (reply_text reply)) (HasNoAnswer before now (Digest k))
-unreached_digest A before now k to error fits next seen reply zone =
-    let reply' = subst (λ (n : ℕ). IsStateFor now.front k n (Err error)) next reply in
-    unreached A before now (Digest k) k ((k + 1) % 2 ^ 64) error seen reply' zone (λ same. same)
-    (λ never same. digest_answered_as A before now k false None _ seen (shot_none (movie_of now.front) k (no_next_place k (length (movie_of now.front).inputs) (few_inputs now.front) never)) refl (rests before now now.front now.front same) same)
-    (λ order within same. digest_answered_as A before now k true _ _ seen (shown_frame (movie_of now.front) k (next_place k (length (movie_of now.front).inputs) fits order within)) refl (inl (rests before now now.front now.front same)) (inr (refl, same)))
-
--- the frame was reached, and the movie is the zone's
-pub frame_within : (A : Type 0) (now : SeatContent A) (movie : MovieContent) (k to : ℕ) → k < 2 ^ 64 → to ≡ (k + 1) % 2 ^ 64 → k ≤ to → to ≤ length (movie_of now.front).inputs → movie ≡ movie_of now.front → k < length movie.inputs
-frame_within A now movie k to fits next order within is =
-    next_place k (length movie.inputs) fits (subst (λ (n : ℕ). k ≤ n) next order) (subst (λ (m : MovieContent). (k + 1) % 2 ^ 64 ≤ length m.inputs) (sym is) (subst (λ (n : ℕ). n ≤ length (movie_of now.front).inputs) next within))
-
-pub digest_answered : (A : Type 0) (before now : SeatContent A) (k at ran : ℕ) (movie : MovieContent) (answer : List ℕ) → HasSeen before now → at ≡ length now.front → movie ≡ movie_of now.front
-    → IsReached before.zone now.zone now.front k ran → IsDigest at movie k answer → HasAnswer A before now (Digest k) answer
-digest_answered A before now k at ran movie answer seen here is reached digest =
-    digest_answered_as A before now k false (Some digest.shown) answer seen (ap (λ (m : MovieContent). answer_shot m k) (sym is) ∙ digest.there)
-    (digest.text_is ∙ ap (λ (n : ℕ). drawn_digest (record { movie = movie; made = n }) k digest.shown) here ∙ ap (λ (m : MovieContent). drawn_digest (record { movie = m; made = length now.front }) k digest.shown) is)
-    (reached.reach.rose, reaches_at before now now.front k ran reached) (inl (ran, reached))
-
-pub lost_digest : (A : Type 0) (before now : SeatContent A) (k ran : ℕ) (movie : MovieContent) → HasSeen before now → k < length movie.inputs → movie ≡ movie_of now.front → IsReached before.zone now.zone now.front k ran
-    → HasAnswer A before now (Digest k) (reply_text OutOfMemory)
-lost_digest A before now k ran movie seen within is reached =
-    digest_answered_as A before now k true _ _ seen (shown_frame (movie_of now.front) k (subst (λ (m : MovieContent). k < length m.inputs) is within)) refl (inr (reached.reach.rose, reaches_at before now now.front k ran reached)) (inl (ran, reached))
-
--- ---- `lag A B`
+pub lag_asks : (a b : ℕ) → AsksForState (Lag a b) a b
+lag_asks a b = record { places = refl; can = λ movie order within. (order, within, refl); found = λ stands order within. (_, lag_there stands a b order within); none = λ stands few never. lag_none stands a b never }
 
 pub lag_ignored : (movie : MovieContent) → LagFramesIgnoreInput movie
 lag_ignored movie = λ k other is. lag_law movie.cart (state_after movie k) (get_or movie.inputs k no_input) other is
 
-pub lag_there : (movie : MovieContent) (a b : ℕ) → a ≤ b → b ≤ length movie.inputs → answer_lag movie a b ≡ Some (lag_lines_between movie a b)
-lag_there movie a b order within = ap (λ (t : Bool). if t then Some (lag_lines_between movie a b) else None) (frames_there (length movie.inputs) a b order within)
+-- a look can be answered from the state that was reached, in another name of the movie
+pub can_reached : (movie same : MovieContent) (made : ℕ) (look : Request) (from to : ℕ) (entry kept : Type 0) (left : ℕ → Type 0) (reached : Result Reached StateError) → AsksForState look from to
+    → IsStateFound (standing_at movie made) entry kept left from to reached → IfOk reached (λ found. same ≡ movie) → IfOk reached (λ found. CanLook look same found.state)
+can_reached movie same made look from to entry kept left (Ok found) asks is name =
+    subst (λ (s : State). CanLook look same s) (sym is.2) (subst (λ (m : MovieContent). CanLook look m (state_after movie from)) (sym name) (asks.can movie is.0 is.1))
+can_reached movie same made look from to entry kept left (Err error) asks is name = tt
 
-pub lag_none : (movie : MovieContent) (a b : ℕ) → (a ≤ b → b ≤ length movie.inputs → ⊥) → answer_lag movie a b ≡ None
-lag_none movie a b never = ap (λ (t : Bool). if t then Some (lag_lines_between movie a b) else None) (frames_none (length movie.inputs) a b never)
+-- ---- of all requests
 
-lag_answered_as : (A : Type 0) (before now : SeatContent A) (a b : ℕ) (no_memory : Bool) (found : Option (List ℕ)) (answer : List ℕ) → HasSeen before now → answer_lag (movie_of now.front) a b ≡ found
-    → answer ≡ answer_to_lag no_memory (standing_of now.front) a b found → LookLeaves no_memory (talk_state_at now.front before.zone) (talk_state_at now.front now.zone) a found → StateLeavesZone before now a answer found
-    → HasAnswer A before now (Lag a b) answer
-lag_answered_as A before now a b no_memory found answer seen there is leaves window = (
-  [],
-  answered_here A before now (Lag a b) answer seen (
-    no_memory,
-    is ∙ ap (answer_to_lag no_memory (standing_of now.front) a b) (sym there),
-    refl,
-    subst (LookLeaves no_memory (talk_state_at now.front before.zone) (talk_state_at now.front now.zone) a) (sym there) leaves,
-    lag_ignored (movie_of now.front),
-  ) (subst (λ (f : Option (List ℕ)). StateLeavesZone before now a answer f) (sym there) window) tt,
-)
+-- a claim of each look is one of each request with places
+pub of_looks : (P : Request → Type 0) (at : ℕ × ℕ) (request : Request) → look_places request ≡ Some at → ((k : ℕ) → P (Picture k)) → ((k : ℕ) → P (Ram k)) → ((k : ℕ) → P (Digest k)) → ((a b : ℕ) → P (Lag a b)) → P request
+of_looks P at (Picture k) is picture ram digest lag = picture k
+of_looks P at (Ram k) is picture ram digest lag = ram k
+of_looks P at (Digest k) is picture ram digest lag = digest k
+of_looks P at (Lag a b) is picture ram digest lag = lag a b
+of_looks P at (Do command) is picture ram digest lag = absurd (cc is)
+of_looks P at (Retouch retouch) is picture ram digest lag = absurd (cc is)
+of_looks P at (Pictures from to) is picture ram digest lag = absurd (cc is)
+of_looks P at Movie is picture ram digest lag = absurd (cc is)
+of_looks P at States is picture ram digest lag = absurd (cc is)
+of_looks P at Share is picture ram digest lag = absurd (cc is)
+of_looks P at (History from) is picture ram digest lag = absurd (cc is)
+of_looks P at Begin is picture ram digest lag = absurd (cc is)
+of_looks P at Commit is picture ram digest lag = absurd (cc is)
+of_looks P at Drop is picture ram digest lag = absurd (cc is)
+of_looks P at Quit is picture ram digest lag = absurd (cc is)
 
-pub unreached_lag : (A : Type 0) (before now : SeatContent A) (a b : ℕ) (error : StateError) → HasSeen before now → IsStateFor now.front a b (Err error) → IsZoneReached before now a (Err error)
-    → MatchResult (unshown_as (shot_error error)) (λ reply. HasAnswer A before now (Lag a b) (reply_text reply)) (HasNoAnswer before now (Lag a b))
-unreached_lag A before now a b error seen reply zone =
-    unreached A before now (Lag a b) a b error seen reply zone (λ same. same)
-    (λ never same. lag_answered_as A before now a b false None _ seen (lag_none (movie_of now.front) a b never) refl (rests before now now.front now.front same) same)
-    (λ order within same. lag_answered_as A before now a b true _ _ seen (lag_there (movie_of now.front) a b order within) refl (inl (rests before now now.front now.front same)) (inr (refl, same)))
+-- ---- what a look is answered
 
-pub lag_answered : (A : Type 0) (before now : SeatContent A) (a b at ran : ℕ) (movie : MovieContent) → HasSeen before now → a ≤ b → b ≤ length (movie_of now.front).inputs → at ≡ length now.front → movie ≡ movie_of now.front
-    → IsReached before.zone now.zone now.front a ran → HasAnswer A before now (Lag a b) (lag_text at a b (lag_lines_between movie a b))
-lag_answered A before now a b at ran movie seen order within here is reached =
-    lag_answered_as A before now a b false _ (lag_text at a b (lag_lines_between movie a b)) seen (lag_there (movie_of now.front) a b order within)
-    (ap (λ (n : ℕ). lag_text n a b (lag_lines_between movie a b)) here ∙ ap (λ (m : MovieContent). lag_text (length now.front) a b (lag_lines_between m a b)) is) (reached.reach.rose, reaches_at before now now.front a ran reached) (inl (ran, reached))
+looked_found : (stands : Standing) (found : Option (List ℕ)) (text answer : List ℕ) (same : Type 0) (left : ℕ → Type 0) → found ≡ Some text → (answer ≡ text) ⊎ (answer ≡ reply_text OutOfMemory) → (ran : ℕ) × left ran → IsLooked stands found same left answer
+looked_found stands found text answer same left there is played = subst (λ (f : Option (List ℕ)). IsLooked stands f same left answer) (sym there) (inl (is, played))
 
-pub lost_lag : (A : Type 0) (before now : SeatContent A) (a b ran : ℕ) → HasSeen before now → a ≤ b → b ≤ length (movie_of now.front).inputs → IsReached before.zone now.zone now.front a ran → HasAnswer A before now (Lag a b) (reply_text OutOfMemory)
-lost_lag A before now a b ran seen order within reached =
-    lag_answered_as A before now a b true _ _ seen (lag_there (movie_of now.front) a b order within) refl (inr (reached.reach.rose, reaches_at before now now.front a ran reached)) (inl (ran, reached))
+looked_lost : (stands : Standing) (found : Option (List ℕ)) (text : List ℕ) (same : Type 0) (left : ℕ → Type 0) → found ≡ Some text → same → IsLooked stands found same left (reply_text OutOfMemory)
+looked_lost stands found text same left there kept = subst (λ (f : Option (List ℕ)). IsLooked stands f same left (reply_text OutOfMemory)) (sym there) (inr (refl, kept))
+
+looked_none : (stands : Standing) (found : Option (List ℕ)) (at len : ℕ) (same : Type 0) (left : ℕ → Type 0) → found ≡ None → at ≡ stands.made → len ≡ length stands.movie.inputs → same → IsLooked stands found same left (reply_text (NoFrame at len))
+looked_none stands found at len same left never here long kept =
+    subst (λ (f : Option (List ℕ)). IsLooked stands f same left (reply_text (NoFrame at len))) (sym never)
+    (ap (λ (n : ℕ). reply_text (NoFrame n len)) here ∙ ap (λ (n : ℕ). reply_text (NoFrame stands.made n)) long, kept)
+
+-- of other things that are left
+pub looked_as : (stands : Standing) (found : Option (List ℕ)) (answer : List ℕ) (same same' : Type 0) (left left' : ℕ → Type 0) → IsLooked stands found same left answer → (same → same') → ((ran : ℕ) → left ran → (rose : ℕ) × left' rose)
+    → IsLooked stands found same' left' answer
+looked_as stands None answer same same' left left' is kept played = (is.0, kept is.1)
+looked_as stands (Some text) answer same same' left left' (inl is) kept played = inl (is.0, played is.1.0 is.1.1)
+looked_as stands (Some text) answer same same' left left' (inr is) kept played = inr (is.0, kept is.1)
+
+-- all is as it was, or frames were played
+pub same_or_left : (stands : Standing) (found : Option (List ℕ)) (answer : List ℕ) (same : Type 0) (left : ℕ → Type 0) → IsLooked stands found same left answer → same ⊎ ((ran : ℕ) × left ran)
+same_or_left stands None answer same left is = inl is.1
+same_or_left stands (Some text) answer same left (inl is) = inr is.1
+same_or_left stands (Some text) answer same left (inr is) = inl is.1
+
+-- the text of what was found, or none where memory was refused
+text_told : {X : Type 0} (P : List ℕ → Type 0) (Q : RunFault → Type 0) (stands : Standing) (found given : Option (List ℕ)) (text : List ℕ) (same : Type 0) (left : ℕ → Type 0) (r : Result X RunFault) (bytes_of : X → List ℕ) → found ≡ Some text → found ≡ given
+    → (ran : ℕ) × left ran → HasText r bytes_of given → ((answer : List ℕ) → IsLooked stands found same left answer → P answer) → ((answer : List ℕ) → P answer → Q Memory) → MatchResult r (λ x. P (bytes_of x)) Q
+text_told P Q stands found given text same left r bytes_of there name played has told lost =
+    MatchResult-weaker r has (λ x e. told (bytes_of x) (elim e [
+      | inl is ↦ looked_found stands found (bytes_of x) (bytes_of x) same left (name ∙ is) (inl refl) played
+      | inr is ↦ looked_found stands found text (bytes_of x) same left there (inr is) played
+    ])) (λ fault e. subst Q (sym e) (lost (reply_text OutOfMemory) (told (reply_text OutOfMemory) (looked_found stands found text (reply_text OutOfMemory) same left there (inr refl) played))))
+
+-- a look at a state: for any claim of the answer, and any of the fault
+pub state_told : {X : Type 0} (P : List ℕ → Type 0) (Q : RunFault → Type 0) (movie name : MovieContent) (made : ℕ) (look : Request) (from to : ℕ) (entry same : Type 0) (left : ℕ → Type 0) (reached : Result Reached StateError) (r : Result X RunFault) (bytes_of : X → List ℕ)
+    → AsksForState look from to → IsStateFound (standing_at movie made) entry same left from to reached → IfOk reached (λ found. name ≡ movie)
+    → MatchResult reached (λ found. HasText r bytes_of (look_text (standing_at name found.at) look)) (λ error. HasReport r bytes_of (shot_error error))
+    → ((answer : List ℕ) → IsLooked (standing_at movie made) (look_text (standing_at movie made) look) same left answer → P answer) → (entry → Q NoEntry) → ((answer : List ℕ) → P answer → Q Memory) → MatchResult r (λ x. P (bytes_of x)) Q
+state_told P Q movie name made look from to entry same left (Ok found) r bytes_of asks is named has told none lost =
+    let there = asks.found (standing_at movie made) is.0 is.1 in
+    text_told P Q (standing_at movie made) (look_text (standing_at movie made) look) (look_text (standing_at name found.at) look) there.0 same left r bytes_of there.1
+    (sym (ap (λ (m : MovieContent). look_text (standing_at m found.at) look) named ∙ ap (λ (n : ℕ). look_text (standing_at movie n) look) is.3)) (found.ran, is.4) has told lost
+state_told {X} P Q movie name made look from to entry same left (Err NoStateEntry) r bytes_of asks is named has told none lost = subst (λ (x : Result X RunFault). MatchResult x (λ x. P (bytes_of x)) Q) (sym has) (none is)
+state_told P Q movie name made look from to entry same left (Err (FewFrames at len)) r bytes_of asks is named has told none lost =
+    let few = subst (λ (n : ℕ). n ≤ most_inputs) is.2 is.3 in
+    text_or_memory P Q (reply_text (NoFrame at len)) r bytes_of has
+    (told (reply_text (NoFrame at len)) (looked_none (standing_at movie made) (look_text (standing_at movie made) look) at len same left (asks.none (standing_at movie made) few is.0) is.1 is.2 is.4)) (lost (reply_text (NoFrame at len)))
+state_told P Q movie name made look from to entry same left (Err NoStateMemory) r bytes_of asks is named has told none lost =
+    let there = asks.found (standing_at movie made) is.0 is.1 in
+    text_or_memory P Q (reply_text OutOfMemory) r bytes_of has (told (reply_text OutOfMemory) (looked_lost (standing_at movie made) (look_text (standing_at movie made) look) there.0 same left there.1 is.2)) (lost (reply_text OutOfMemory))
+
+-- a picture
+pub picture_told : {X B : Type 0} (P : List ℕ → Type 0) (Q : RunFault → Type 0) (movie : MovieContent) (made k : ℕ) (entry same : Type 0) (left : ℕ → Type 0) (drawn : Result (ShotOf B) ShotError) (r : Result X RunFault) (bytes_of : X → List ℕ)
+    → IsShotFound (standing_at movie made) entry same left k drawn → MatchResult drawn (λ shot. HasText r bytes_of (Some (picture_text shot.at k (ppm_bytes shot.picture)))) (λ error. HasReport r bytes_of error)
+    → ((answer : List ℕ) → IsLooked (standing_at movie made) (look_text (standing_at movie made) (Picture k)) same left answer → P answer) → (entry → Q NoEntry) → ((answer : List ℕ) → P answer → Q Memory) → MatchResult r (λ x. P (bytes_of x)) Q
+picture_told P Q movie made k entry same left (Ok shot) r bytes_of is has told none lost =
+    let there = ap (option_map (picture_found (standing_at movie made) k)) is.0 in
+    text_told P Q (standing_at movie made) (look_text (standing_at movie made) (Picture k)) (Some (picture_text shot.at k (ppm_bytes shot.picture))) _ same left r bytes_of there
+    (there ∙ ap (λ (n : ℕ). Some (picture_text n k (ppm_bytes shot.picture))) (sym is.1)) (shot.ran, is.3) has told lost
+picture_told {X} P Q movie made k entry same left (Err NoShotEntry) r bytes_of is has told none lost = subst (λ (x : Result X RunFault). MatchResult x (λ x. P (bytes_of x)) Q) (sym has) (none is)
+picture_told P Q movie made k entry same left (Err (NoShotFrame at len)) r bytes_of is has told none lost =
+    text_or_memory P Q (reply_text (NoFrame at len)) r bytes_of has
+    (told (reply_text (NoFrame at len)) (looked_none (standing_at movie made) (look_text (standing_at movie made) (Picture k)) at len same left (ap (option_map (picture_found (standing_at movie made) k)) is.0) is.1 is.2 is.3)) (lost (reply_text (NoFrame at len)))
+picture_told P Q movie made k entry same left (Err NoShotMemory) r bytes_of is has told none lost =
+    let there = ap (option_map (picture_found (standing_at movie made) k)) (shown_frame movie k is.0) in
+    text_or_memory P Q (reply_text OutOfMemory) r bytes_of has (told (reply_text OutOfMemory) (looked_lost (standing_at movie made) (look_text (standing_at movie made) (Picture k)) _ same left there is.1)) (lost (reply_text OutOfMemory))
+picture_told P Q movie made k entry same left (Err (ShotHalted at halt)) r bytes_of is has told none lost =
+    let there = ap (option_map (picture_found (standing_at movie made) k)) is.0 ∙ ap (λ (n : ℕ). Some (reply_text (halted_reply n halt))) (sym is.1) in
+    text_or_memory P Q (reply_text (halted_reply at halt)) r bytes_of has
+    (told (reply_text (halted_reply at halt)) (looked_found (standing_at movie made) (look_text (standing_at movie made) (Picture k)) (reply_text (halted_reply at halt)) (reply_text (halted_reply at halt)) same left there (inl refl) is.2)) (lost (reply_text (halted_reply at halt)))
+
+-- a shot: for any claim of the reply, and any of the fault
+pub shot_told : {B : Type 0} (P : Reply → Type 0) (Q : RunFault → Type 0) (movie : MovieContent) (made k : ℕ) (entry same same' : Type 0) (left left' : ℕ → Type 0) (drawn : Result (ShotOf B) ShotError) (r : Result Reply RunFault)
+    → IsShotFound (standing_at movie made) entry same left k drawn → MatchResult drawn (λ shot. r ≡ Ok (Drawn shot.at shot.frame shot.ran (lit_count shot.picture))) (λ error. r ≡ unshown_as error) → (same → same') → ((ran : ℕ) → left ran → left' ran)
+    → ((reply : Reply) → IsTurn (standing_at movie made) (Shot k) reply (standing_at movie made) → ShotLeaves same' left' reply → same ⊎ ((ran : ℕ) × left ran) → P reply) → (entry → Q NoEntry) → MatchResult r P Q
+shot_told P Q movie made k entry same same' left left' (Ok shot) r is has kept played told none =
+    let lit : ℕ = lit_count shot.picture in
+    let u : Unforeseen = record { refused = false; ran = shot.ran; kept = 0; stale = 0 } in
+    subst (λ (x : Result Reply RunFault). MatchResult x P Q) (sym has)
+    (told (Drawn shot.at shot.frame shot.ran lit) (
+      u,
+      ap (λ (n : ℕ). Drawn n shot.frame shot.ran lit) is.1 ∙ ap (λ (n : ℕ). Drawn made n shot.ran lit) is.2 ∙ ap (shot_reply u (standing_at movie made) k) (sym is.0),
+      refl,
+    ) (played shot.ran is.3) (inr (shot.ran, is.3)))
+shot_told P Q movie made k entry same same' left left' (Err NoShotEntry) r is has kept played told none = subst (λ (x : Result Reply RunFault). MatchResult x P Q) (sym has) (none is)
+shot_told P Q movie made k entry same same' left left' (Err (NoShotFrame at len)) r is has kept played told none =
+    subst (λ (x : Result Reply RunFault). MatchResult x P Q) (sym has)
+    (told (NoFrame at len) (
+      unforeseen false,
+      ap (λ (n : ℕ). NoFrame n len) is.1 ∙ ap (NoFrame made) is.2 ∙ ap (shot_reply (unforeseen false) (standing_at movie made) k) (sym is.0),
+      refl,
+    ) (kept is.3) (inl is.3))
+shot_told P Q movie made k entry same same' left left' (Err NoShotMemory) r is has kept played told none =
+    subst (λ (x : Result Reply RunFault). MatchResult x P Q) (sym has)
+    (told OutOfMemory (unforeseen true, ap (shot_reply (unforeseen true) (standing_at movie made) k) (sym (shown_frame movie k is.0)), refl) (kept is.1) (inl is.1))
+shot_told P Q movie made k entry same same' left left' (Err (ShotHalted at (Undocumented address opcode))) r is has kept played told none =
+    subst (λ (x : Result Reply RunFault). MatchResult x P Q) (sym has)
+    (told (halted_reply at (Undocumented address opcode)) (
+      unforeseen false,
+      ap (λ (n : ℕ). halted_reply n (Undocumented address opcode)) is.1 ∙ ap (shot_reply (unforeseen false) (standing_at movie made) k) (sym is.0),
+      refl,
+    ) (is.2.0, played is.2.0 is.2.1) (inr is.2))

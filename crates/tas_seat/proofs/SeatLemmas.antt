@@ -7,12 +7,11 @@ use Rattle.tas_movie.specs.declared.edit.Edit.{Edit}
 use Rattle.tas_published.specs.declared.entry.Entry.{Entry}
 use Rattle.tas_published.proofs.PrefixLemmas.{prefix_trans, prefix_self}
 use Rattle.tas_desk.specs.Seats.{SeatContent, seat_of, HasSeen}
-use Rattle.tas_desk.specs.States.{IsReached}
-use Rattle.tas_desk.specs.Zones.{ZoneContent, IsMadeFor, IsPlayed, IsShared, IsViewed}
+use Rattle.tas_desk.specs.Zones.{ZoneContent, IsMadeFor, IsPlayed, IsShared}
 use Rattle.tas_language.specs.declared.request.Request.{Request}
 use Rattle.tas_seat.specs.Edits.{made_between}
 use Rattle.tas_seat.specs.Turns.{Standing, standing_of}
-use Rattle.tas_seat.specs.Requests.{Rests, IsGreen, Plays, Reaches, Gains, IsAnswerTo}
+use Rattle.tas_seat.specs.Requests.{Rests, IsGreen, Plays, Gains, IsAnswerTo}
 use Rattle.tas_seat.specs.Seats.{talk_state_at, IsSeatAfter, LeavesZone, AnswerCountsWork, IsAnsweredAt}
 use Rattle.tas_seat.specs.Outcomes.{IsMiscounted}
 
@@ -83,15 +82,8 @@ rests {A} before now one other same = record { kept_for = ap (λ (z : ZoneConten
 pub green_at : {A : Type 0} (zone : ZoneContent A) (front : List (Entry A)) → IsMadeFor zone front → IsGreen (talk_state_at front zone)
 green_at zone front made = record { kept_for = made.movie; lawful = made.lawful }
 
-pub plays_at : {A : Type 0} (before now : SeatContent A) (one : List (Entry A)) (k ran : ℕ) → IsPlayed before.zone now.zone now.front k ran → Plays (talk_state_at one before.zone) (talk_state_at now.front now.zone) k ran
-plays_at before now one k ran is = record { green = green_at now.zone now.front is.made; shot = is.shot }
-
--- a view leaves the zone as a shot does
-pub views_at : {A : Type 0} (before now : SeatContent A) (one : List (Entry A)) (k ran : ℕ) → (v : IsViewed before.zone now.zone now.front k ran) → Plays (talk_state_at one before.zone) (talk_state_at now.front now.zone) k v.view.rose
-views_at before now one k ran v = record { green = green_at now.zone now.front v.made; shot = v.view.played }
-
-pub reaches_at : {A : Type 0} (before now : SeatContent A) (one : List (Entry A)) (k ran : ℕ) → (is : IsReached before.zone now.zone now.front k ran) → Reaches (talk_state_at one before.zone) (talk_state_at now.front now.zone) k is.reach.rose
-reaches_at before now one k ran is = record { green = green_at now.zone now.front is.made; reach = is.reach.played }
+pub plays_at : {A : Type 0} (before now : SeatContent A) (one : List (Entry A)) (k ran : ℕ) → IsPlayed before.zone now.zone now.front k ran → Plays (talk_state_at one before.zone) (talk_state_at now.front now.zone) k (k + 1) ran
+plays_at before now one k ran is = record { green = green_at now.zone now.front is.made; played = is.shot }
 
 pub gains_at : {A : Type 0} (before now : SeatContent A) (one : List (Entry A)) (gained : ℕ) → IsShared before.zone now.zone now.front gained → Gains (talk_state_at one before.zone) (talk_state_at now.front now.zone)
 gains_at before now one gained is = record { green = green_at now.zone now.front is.made; other = is.other; others = is.others; gained = gained; gain = is.gain }

@@ -1,5 +1,5 @@
 -- Requests of a conversation, by what they are about: the desk, the movie, the draft.
-use Rattle.std.proofs.Common.{◌≡◌, ℕ, List, [], Option, Some, None, Result, Ok, Err, inl, inr, refl, sym, subst}
+use Rattle.std.proofs.Common.{◌≡◌, ℕ, List, [], Option, Some, None, Result, Ok, Err, inl, inr, refl, sym, ap, subst, ◌∙◌}
 use Rattle.std.specs.Prelude.{MatchResult, MatchOption}
 use Rattle.tas_desk.specs.Seats.{SeatContent}
 use Rattle.tas_engines.specs.declared.fault.RunFault.{RunFault}
@@ -8,34 +8,36 @@ use Rattle.tas_language.specs.declared.request.Request.{Request}
 use Rattle.tas_language.specs.declared.request.Request.TheVariants.{Do, Retouch, Picture, Pictures, Ram, Digest, Lag, Movie, States, Share, History, Begin, Commit, Drop, Quit}
 use Rattle.tas_seat.specs.declared.conversation.Subject.{Subject}
 use Rattle.tas_seat.specs.declared.conversation.Subject.TheVariants.{Begin as AboutBegin, Commit as AboutCommit, Drop as AboutDrop, Desk as AboutDesk, Movie as AboutMovie, End as AboutEnd}
-use Rattle.tas_seat.specs.Drafts.{DraftContent, IsDraft, IsDraftAnswered, IsDraftUnanswered, IsAboutDesk}
-use Rattle.tas_seat.specs.Conversations.{TalkingSeat, talking}
-use Rattle.tas_seat.specs.Inside.Conversing.{subject_of}
-use Rattle.tas_seat.specs.Outcomes.{HasAnswer, HasNoAnswer, KeepsSeat, KeepsTalk, IsAboutTalk, HasTalkAnswer, HasNoTalkAnswer}
+use Rattle.tas_seat.specs.Subjects.{subject_of, IsOfTalk, IsAboutTalk, IsOfDesk, IsAboutDesk}
+use Rattle.tas_seat.specs.Drafts.{DraftContent, IsDraft, IsDraftAnswered, IsDraftUnanswered}
+use Rattle.tas_seat.specs.Seats.{IsPictureAt}
+use Rattle.tas_seat.specs.Conversations.{TalkingSeat, talking, IsAnsweredOutsideOf, IsAnsweredInsideOf}
+use Rattle.tas_seat.specs.Outcomes.{HasAnswer, HasNoAnswer, KeepsSeat, KeepsTalk, HasTalkAnswer, HasNoTalkAnswer}
+use Rattle.tas_seat.proofs.StripLemmas.{same_or_strip}
 
 -- ---- what a request's subject says of it
 
--- a request about one subject: it is the one that is about it; or it is about the movie alone, or the desk alone
+-- a request about one subject: of a conversation's own it is the one that is about it
 abbrev IsOf : Request → Subject → Type 0
 IsOf request AboutBegin = request ≡ Begin
 IsOf request AboutCommit = request ≡ Commit
 IsOf request AboutDrop = request ≡ Drop
 IsOf request AboutEnd = request ≡ Quit
-IsOf request AboutDesk = IsAboutTalk request → ⊥
-IsOf request AboutMovie = (IsAboutDesk request → ⊥) × (IsAboutTalk request → ⊥)
+IsOf request AboutDesk = Unit {0}
+IsOf request AboutMovie = Unit {0}
 
 is_of : (request : Request) → IsOf request (subject_of request)
-is_of (Do command) = (λ desk. desk, λ talk. talk)
-is_of (Retouch retouch) = (λ desk. desk, λ talk. talk)
-is_of (Picture k) = (λ desk. desk, λ talk. talk)
-is_of (Pictures from to) = (λ desk. desk, λ talk. talk)
-is_of (Ram k) = (λ desk. desk, λ talk. talk)
-is_of (Digest k) = (λ desk. desk, λ talk. talk)
-is_of (Lag a b) = (λ desk. desk, λ talk. talk)
-is_of Movie = (λ desk. desk, λ talk. talk)
-is_of States = (λ desk. desk, λ talk. talk)
-is_of Share = λ talk. talk
-is_of (History from) = λ talk. talk
+is_of (Do command) = tt
+is_of (Retouch retouch) = tt
+is_of (Picture k) = tt
+is_of (Pictures from to) = tt
+is_of (Ram k) = tt
+is_of (Digest k) = tt
+is_of (Lag a b) = tt
+is_of Movie = tt
+is_of States = tt
+is_of Share = tt
+is_of (History from) = tt
 is_of Begin = refl
 is_of Commit = refl
 is_of Drop = refl
@@ -70,80 +72,27 @@ desk_no_movie is = cc is
 -- a request about the desk is answered in a draft and outside one
 pub desk_answered : (A : Type 0) (before now : SeatContent A) (draft : Option DraftContent) (request : Request) (answer : List ℕ) → subject_of request ≡ AboutDesk → HasAnswer A before now request answer
     → HasTalkAnswer A (talking before draft) (talking now draft) request answer
-desk_answered A before now None Share answer is (edits, told) = (edits, (told, refl))
-desk_answered A before now (Some draft) Share answer is (edits, told) = (edits, (told, refl))
-desk_answered A before now None (History from) answer is (edits, told) = (edits, (told, refl))
-desk_answered A before now (Some draft) (History from) answer is (edits, told) = (edits, (told, refl))
-desk_answered A before now draft (Do command) answer is told = absurd (cc is)
-desk_answered A before now draft (Retouch retouch) answer is told = absurd (cc is)
-desk_answered A before now draft (Picture k) answer is told = absurd (cc is)
-desk_answered A before now draft (Pictures from to) answer is told = absurd (cc is)
-desk_answered A before now draft (Ram k) answer is told = absurd (cc is)
-desk_answered A before now draft (Digest k) answer is told = absurd (cc is)
-desk_answered A before now draft (Lag a b) answer is told = absurd (cc is)
-desk_answered A before now draft Movie answer is told = absurd (cc is)
-desk_answered A before now draft States answer is told = absurd (cc is)
-desk_answered A before now draft Begin answer is told = absurd (cc is)
-desk_answered A before now draft Commit answer is told = absurd (cc is)
-desk_answered A before now draft Drop answer is told = absurd (cc is)
-desk_answered A before now draft Quit answer is told = absurd (cc is)
+desk_answered A before now None request answer is (edits, told) = (edits, subst (λ (about : Subject). IsAnsweredOutsideOf about A before (talking now None) request answer edits) (sym is) (told, refl))
+desk_answered A before now (Some draft) request answer is (edits, told) = (edits, subst (λ (about : Subject). IsAnsweredInsideOf about A before draft (talking now (Some draft)) request answer edits) (sym is) (told, refl))
 
 -- a request about the movie is answered at the desk's outside a draft
 pub movie_answered_outside : (A : Type 0) (before now : SeatContent A) (request : Request) (answer : List ℕ) → subject_of request ≡ AboutMovie → HasAnswer A before now request answer
     → HasTalkAnswer A (talking before None) (talking now None) request answer
-movie_answered_outside A before now (Do command) answer is (edits, told) = (edits, (told, refl))
-movie_answered_outside A before now (Retouch retouch) answer is (edits, told) = (edits, (told, refl))
-movie_answered_outside A before now (Picture k) answer is (edits, told) = (edits, (told, refl))
-movie_answered_outside A before now (Pictures from to) answer is (edits, told) = (edits, (told, refl))
-movie_answered_outside A before now (Ram k) answer is (edits, told) = (edits, (told, refl))
-movie_answered_outside A before now (Digest k) answer is (edits, told) = (edits, (told, refl))
-movie_answered_outside A before now (Lag a b) answer is (edits, told) = (edits, (told, refl))
-movie_answered_outside A before now Movie answer is (edits, told) = (edits, (told, refl))
-movie_answered_outside A before now States answer is (edits, told) = (edits, (told, refl))
-movie_answered_outside A before now Share answer is told = absurd (cc is)
-movie_answered_outside A before now (History from) answer is told = absurd (cc is)
-movie_answered_outside A before now Begin answer is told = absurd (cc is)
-movie_answered_outside A before now Commit answer is told = absurd (cc is)
-movie_answered_outside A before now Drop answer is told = absurd (cc is)
-movie_answered_outside A before now Quit answer is told = absurd (cc is)
+movie_answered_outside A before now request answer is (edits, told) = (edits, subst (λ (about : Subject). IsAnsweredOutsideOf about A before (talking now None) request answer edits) (sym is) (told, refl))
 
 -- and at the draft's in one
 pub movie_answered_inside : (A : Type 0) (seat : SeatContent A) (draft next : DraftContent) (request : Request) (answer : List ℕ) → subject_of request ≡ AboutMovie → IsDraftAnswered draft request answer next → IsDraft next
     → HasTalkAnswer A (talking seat (Some draft)) (talking seat (Some next)) request answer
-movie_answered_inside A seat draft next (Do command) answer is told sound = ([], (next, told, sound, refl, record { same = refl; none = refl }))
-movie_answered_inside A seat draft next (Retouch retouch) answer is told sound = ([], (next, told, sound, refl, record { same = refl; none = refl }))
-movie_answered_inside A seat draft next (Picture k) answer is told sound = ([], (next, told, sound, refl, record { same = refl; none = refl }))
-movie_answered_inside A seat draft next (Pictures from to) answer is told sound = ([], (next, told, sound, refl, record { same = refl; none = refl }))
-movie_answered_inside A seat draft next (Ram k) answer is told sound = ([], (next, told, sound, refl, record { same = refl; none = refl }))
-movie_answered_inside A seat draft next (Digest k) answer is told sound = ([], (next, told, sound, refl, record { same = refl; none = refl }))
-movie_answered_inside A seat draft next (Lag a b) answer is told sound = ([], (next, told, sound, refl, record { same = refl; none = refl }))
-movie_answered_inside A seat draft next Movie answer is told sound = ([], (next, told, sound, refl, record { same = refl; none = refl }))
-movie_answered_inside A seat draft next States answer is told sound = ([], (next, told, sound, refl, record { same = refl; none = refl }))
-movie_answered_inside A seat draft next Share answer is told sound = absurd (cc is)
-movie_answered_inside A seat draft next (History from) answer is told sound = absurd (cc is)
-movie_answered_inside A seat draft next Begin answer is told sound = absurd (cc is)
-movie_answered_inside A seat draft next Commit answer is told sound = absurd (cc is)
-movie_answered_inside A seat draft next Drop answer is told sound = absurd (cc is)
-movie_answered_inside A seat draft next Quit answer is told sound = absurd (cc is)
+movie_answered_inside A seat draft next request answer is told sound =
+    ([], subst (λ (about : Subject). IsAnsweredInsideOf about A seat draft (talking seat (Some next)) request answer []) (sym is) (next, told, sound, refl, record { same = refl; none = refl }))
 
 -- what a request about the desk leaves that isn't answered, in a draft or outside one
 desk_kept : {A : Type 0} (before now : SeatContent A) (draft : Option DraftContent) (request : Request) → subject_of request ≡ AboutDesk → KeepsSeat request before now → KeepsTalk request (talking before draft) (talking now draft)
 desk_kept before now None request is kept = inl (record { seat = kept; draft_was = refl; draft_is = refl })
-desk_kept before now (Some draft) Share is same = inr (record { old = draft; next = draft; seat = same; draft_was = refl; draft_is = refl; kept = refl })
-desk_kept before now (Some draft) (History from) is same = inr (record { old = draft; next = draft; seat = same; draft_was = refl; draft_is = refl; kept = refl })
-desk_kept before now (Some draft) (Do command) is kept = absurd (cc is)
-desk_kept before now (Some draft) (Retouch retouch) is kept = absurd (cc is)
-desk_kept before now (Some draft) (Picture k) is kept = absurd (cc is)
-desk_kept before now (Some draft) (Pictures from to) is kept = absurd (cc is)
-desk_kept before now (Some draft) (Ram k) is kept = absurd (cc is)
-desk_kept before now (Some draft) (Digest k) is kept = absurd (cc is)
-desk_kept before now (Some draft) (Lag a b) is kept = absurd (cc is)
-desk_kept before now (Some draft) Movie is kept = absurd (cc is)
-desk_kept before now (Some draft) States is kept = absurd (cc is)
-desk_kept before now (Some draft) Begin is kept = absurd (cc is)
-desk_kept before now (Some draft) Commit is kept = absurd (cc is)
-desk_kept before now (Some draft) Drop is kept = absurd (cc is)
-desk_kept before now (Some draft) Quit is kept = absurd (cc is)
+desk_kept {A} before now (Some draft) request is kept = elim (same_or_strip (IsPictureAt {A = A}) before now request kept) [
+  | inl same ↦ inr (record { old = draft; next = draft; seat = same.0; draft_was = refl; draft_is = refl; kept = same.1 draft })
+  | inr strip ↦ absurd (desk_no_movie (sym is ∙ ap subject_of strip.2))
+]
 
 -- why a request isn't answered outside a draft, where one that is answered is one of the conversation
 pub unanswered_talk : (A : Type 0) (before now : TalkingSeat A) (request : Request) (fault : RunFault) → ((answer : List ℕ) → HasAnswer A before.seat now.seat request answer → HasTalkAnswer A before now request answer)
@@ -175,7 +124,7 @@ unanswered_inside A seat draft next request is (inr (answer, told)) sound = inr 
 pub inside_said : {X : Type 0} (A : Type 0) (seat : SeatContent A) (draft next : DraftContent) (request : Request) (r : Result (Option X) RunFault) (bytes_of : X → List ℕ) → subject_of request ≡ AboutMovie
     → MatchResult r (λ found. MatchOption found (IsAboutDesk request × (next ≡ draft)) (λ bytes. IsDraftAnswered draft request (bytes_of bytes) next)) (λ fault. (fault ≡ Memory) × IsDraftUnanswered draft request next) → IsDraft next
     → MatchResult r (λ found. MatchOption found ⊥ (λ bytes. HasTalkAnswer A (talking seat (Some draft)) (talking seat (Some next)) request (bytes_of bytes))) (HasNoTalkAnswer (talking seat (Some draft)) (talking seat (Some next)) request)
-inside_said A seat draft next request (Ok None) bytes_of is told sound = absurd ((of_subject request AboutMovie is).0 told.0)
+inside_said A seat draft next request (Ok None) bytes_of is told sound = absurd (subst IsOfDesk is told.0)
 inside_said A seat draft next request (Ok (Some bytes)) bytes_of is told sound = movie_answered_inside A seat draft next request (bytes_of bytes) is told sound
 inside_said A seat draft next request (Err fault) bytes_of is told sound =
     subst (HasNoTalkAnswer (talking seat (Some draft)) (talking seat (Some next)) request) (sym told.0) (unanswered_inside A seat draft next request is told.1 sound)
@@ -184,7 +133,7 @@ inside_said A seat draft next request (Err fault) bytes_of is told sound =
 pub outside_said : {X : Type 0} (A : Type 0) (before now : SeatContent A) (request : Request) (r : Result (Option X) RunFault) (bytes_of : X → List ℕ) → subject_of request ≡ AboutMovie
     → MatchResult r (λ found. MatchOption found (IsAboutTalk request × (now ≡ before)) (λ bytes. HasAnswer A before now request (bytes_of bytes))) (HasNoAnswer before now request)
     → MatchResult r (λ found. MatchOption found ⊥ (λ bytes. HasTalkAnswer A (talking before None) (talking now None) request (bytes_of bytes))) (HasNoTalkAnswer (talking before None) (talking now None) request)
-outside_said A before now request (Ok None) bytes_of is told = absurd ((of_subject request AboutMovie is).1 told.0)
+outside_said A before now request (Ok None) bytes_of is told = absurd (subst IsOfTalk is told.0)
 outside_said A before now request (Ok (Some bytes)) bytes_of is told = movie_answered_outside A before now request (bytes_of bytes) is told
 outside_said A before now request (Err fault) bytes_of is told =
     unanswered_talk A (talking before None) (talking now None) request fault (λ answer has. movie_answered_outside A before now request answer is has)
@@ -195,7 +144,7 @@ pub desk_said : {X : Type 0} (A : Type 0) (before now : SeatContent A) (draft : 
     → MatchResult r (λ found. MatchOption found (IsAboutTalk request × (now ≡ before)) (λ bytes. HasAnswer A before now request (bytes_of bytes))) (HasNoAnswer before now request)
     → MatchResult r (λ found. MatchOption found ((request ≡ Quit) × (talking now draft ≡ talking before draft)) (λ bytes. HasTalkAnswer A (talking before draft) (talking now draft) request (bytes_of bytes)))
     (HasNoTalkAnswer (talking before draft) (talking now draft) request)
-desk_said A before now draft request (Ok None) bytes_of is told = absurd (of_subject request AboutDesk is told.0)
+desk_said A before now draft request (Ok None) bytes_of is told = absurd (subst IsOfTalk is told.0)
 desk_said A before now draft request (Ok (Some bytes)) bytes_of is told = desk_answered A before now draft request (bytes_of bytes) is told
 desk_said A before now draft request (Err fault) bytes_of is told =
     unanswered_talk A (talking before draft) (talking now draft) request fault (λ answer has. desk_answered A before now draft request answer is has)

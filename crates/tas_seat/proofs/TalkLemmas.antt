@@ -16,14 +16,15 @@ use Rattle.tas_engines.specs.declared.fault.ToolFault.{ToolFault}
 use Rattle.tas_engines.specs.declared.fault.ToolFault.TheVariants.{Read, Run}
 use Rattle.tas_engines.specs.declared.fault.ReadFault.TheVariants.{Failed}
 use Rattle.tas_language.specs.declared.request.Request.{Request}
-use Rattle.tas_language.specs.declared.request.Request.TheVariants.{Do, Retouch, Picture, Pictures, Ram, Digest, Lag, Movie, States, Share, History, Begin, Commit, Drop, Quit}
 use Rattle.tas_language.specs.Requests.{IsHeard}
 use Rattle.tas_language.specs.Held.{HoldsLine}
 use Rattle.tas_language.specs.Answers.{unknown_text}
 use Rattle.tas_seat.specs.Conversations.{TalkingSeat, talking, IsTalkAnswered}
+use Rattle.tas_seat.specs.Seats.{IsPictureAt}
 use Rattle.tas_seat.specs.Outcomes.{KeepsSeat, KeepsTalk, HasNoTalkAnswer, IsLook}
 use Rattle.tas_seat.specs.Talk.{Exchange, IsExchange, AreExchanges, IsLeft, HasDrawn, HasLooked, IsCarriedOut, IsAnswerCutOff, TalkEnds, IsTalk, lines_of, answers_of, last_answer, most_counted}
 use Rattle.tas_seat.specs.Inside.Talking.{CutsOff, HasAnswered, Breaks, StopsAfter, IsLineTurn, IsPartTurn}
+use Rattle.tas_seat.proofs.StripLemmas.{same_or_strip}
 
 -- ---- lists of exchanges
 
@@ -142,22 +143,20 @@ not_looked seat rest = record { kept = inl refl; none = refl }
 -- a request that isn't answered leaves the seat, but for the first pictures of a strip
 kept_at_desk : {A : Type 0} (seat : TalkingSeat A) (last : SeatContent A) (said more : List ℕ) (request : Request) → NoByte 10 said → IsHeard said (Some request) → seat.draft ≡ None → KeepsSeat request seat.seat last
     → (last ≡ seat.seat) ⊎ HasDrawn seat last (line said ++ more)
-kept_at_desk seat last said more (Pictures from to) none heard closed kept =
-    inr (record { said = said; more = more; from = from; to = to; is = refl; whole = none; heard = heard; no_draft = closed; kept = kept })
-kept_at_desk seat last said more (Do command) none heard closed same = inl same
-kept_at_desk seat last said more (Retouch retouch) none heard closed same = inl same
-kept_at_desk seat last said more (Picture k) none heard closed same = inl same
-kept_at_desk seat last said more (Ram k) none heard closed same = inl same
-kept_at_desk seat last said more (Digest k) none heard closed same = inl same
-kept_at_desk seat last said more (Lag a b) none heard closed same = inl same
-kept_at_desk seat last said more Movie none heard closed same = inl same
-kept_at_desk seat last said more States none heard closed same = inl same
-kept_at_desk seat last said more Share none heard closed same = inl same
-kept_at_desk seat last said more (History from) none heard closed same = inl same
-kept_at_desk seat last said more Begin none heard closed same = inl same
-kept_at_desk seat last said more Commit none heard closed same = inl same
-kept_at_desk seat last said more Drop none heard closed same = inl same
-kept_at_desk seat last said more Quit none heard closed same = inl same
+kept_at_desk {A} seat last said more request none heard closed kept = elim (same_or_strip (IsPictureAt {A = A}) seat.seat last request kept) [
+  | inl same ↦ inl same.0
+  | inr strip ↦ inr (record {
+    said = said;
+    more = more;
+    from = strip.0;
+    to = strip.1;
+    is = refl;
+    whole = none;
+    heard = subst (λ (q : Request). IsHeard said (Some q)) strip.2 heard;
+    no_draft = closed;
+    kept = strip.3;
+  })
+]
 
 kept_talk : {A : Type 0} (before now : TalkingSeat A) (said more : List ℕ) (request : Request) → NoByte 10 said → IsHeard said (Some request) → KeepsTalk request before now → HasLooked before now.seat (line said ++ more) []
 kept_talk before now said more request none heard (inl outside) = record { kept = kept_at_desk before now.seat said more request none heard outside.draft_was outside.seat; none = refl }

@@ -1,12 +1,12 @@
 -- An answer's bytes, or memory that was refused for them: for any claim of the answer, and any of the fault.
-use Rattle.std.proofs.Common.{◌≡◌, List, ℕ, Result, Ok, Err, IfOk, sym, subst}
+use Rattle.std.proofs.Common.{◌≡◌, List, ℕ, Option, Some, Result, Ok, Err, IfOk, ◌⊎◌, inl, inr, refl, sym, subst}
 use Rattle.std.specs.Prelude.{MatchResult}
-use Rattle.std.proofs.lemmas.Result.{MatchResult-weaker}
+use Rattle.std.proofs.lemmas.Result.{MatchResult-weaker, IfOk-weaker}
 use Rattle.tas_engines.specs.declared.fault.RunFault.{RunFault}
 use Rattle.tas_engines.specs.declared.fault.RunFault.TheVariants.{Memory}
-use Rattle.tas_language.specs.declared.reply.Reply.{Reply}
 use Rattle.tas_language.specs.declared.reply.Reply.TheVariants.{OutOfMemory}
 use Rattle.tas_language.specs.Replies.{reply_text}
+use Rattle.tas_seat.specs.Inside.Looking.{HasText}
 
 -- the answer's bytes, or memory was refused for them
 pub text_or_memory : {X : Type 0} (P : List ℕ → Type 0) (Q : RunFault → Type 0) (text : List ℕ) (r : Result X RunFault) (bytes_of : X → List ℕ) → MatchResult r (λ bytes. bytes_of bytes ≡ text) (λ fault. fault ≡ Memory) → P text → (P text → Q Memory)
@@ -20,9 +20,8 @@ pub made_or_memory : {X E : Type 0} (P : List ℕ → Type 0) (Q : RunFault → 
 made_or_memory {X} P Q (Ok bytes) r bytes_of is told refused lost = subst (λ (x : Result X RunFault). MatchResult x (λ bytes. P (bytes_of bytes)) Q) (sym is) told
 made_or_memory P Q (Err fault) r bytes_of is told refused lost = text_or_memory P Q (reply_text OutOfMemory) r bytes_of is refused lost
 
--- a shot, or a look, that shows nothing
-pub reply_or_fault : {X : Type 0} (P : List ℕ → Type 0) (Q : RunFault → Type 0) (shown : Result Reply RunFault) (r : Result X RunFault) (bytes_of : X → List ℕ)
-    → MatchResult shown (λ reply. MatchResult r (λ bytes. bytes_of bytes ≡ reply_text reply) (λ fault. fault ≡ Memory)) (λ fault. r ≡ Err fault) → MatchResult shown (λ reply. P (reply_text reply)) Q
-    → ((text : List ℕ) → P text → Q Memory) → MatchResult r (λ bytes. P (bytes_of bytes)) Q
-reply_or_fault P Q (Ok reply) r bytes_of is told lost = text_or_memory P Q (reply_text reply) r bytes_of is told (lost (reply_text reply))
-reply_or_fault {X} P Q (Err fault) r bytes_of is told lost = subst (λ (x : Result X RunFault). MatchResult x (λ bytes. P (bytes_of bytes)) Q) (sym is) told
+-- so the answer has the text that was found
+pub text_made : {X E : Type 0} (found : Option (List ℕ)) (answer : Result X E) (r : Result X RunFault) (bytes_of : X → List ℕ)
+    → MatchResult answer (λ bytes. r ≡ Ok bytes) (λ fault. MatchResult r (λ bytes. bytes_of bytes ≡ reply_text OutOfMemory) (λ fault. fault ≡ Memory)) → IfOk answer (λ bytes. found ≡ Some (bytes_of bytes)) → HasText r bytes_of found
+text_made found answer r bytes_of is told =
+    made_or_memory (λ (text : List ℕ). (found ≡ Some text) ⊎ (text ≡ reply_text OutOfMemory)) (λ (fault : RunFault). fault ≡ Memory) answer r bytes_of is (IfOk-weaker answer _ _ (λ bytes e. inl e) told) (inr refl) (λ lost. refl)

@@ -14,11 +14,13 @@ use Rattle.tas_language.specs.declared.draft_reply.DraftReply.TheVariants.{Began
 use Rattle.tas_language.specs.Drafts.{draft_reply_text}
 use Rattle.tas_language.specs.Answers.{unknown_text}
 use Rattle.tas_language.specs.declared.request.Request.{Request}
-use Rattle.tas_language.specs.declared.request.Request.TheVariants.{Share, History, Begin, Commit, Drop}
 use Rattle.tas_published.specs.Strokes.{edited_by, refusal_in}
 use Rattle.tas_seat.specs.Turns.{Standing, standing_of, refusal_reply}
 use Rattle.tas_seat.specs.Requests.{TalkState, GainsUnless}
 use Rattle.tas_seat.specs.Seats.{talk_state_at, IsSeatAfter, KeepsWindow, IsRequestAnswered}
+use Rattle.tas_seat.specs.Subjects.{subject_of}
+use Rattle.tas_seat.specs.declared.conversation.Subject.{Subject}
+use Rattle.tas_seat.specs.declared.conversation.Subject.TheVariants as subject
 use Rattle.tas_seat.specs.Drafts.{DraftContent, fresh_draft, IsDraft, IsDraftAnswered, IsStroke, LeadsTo, HasStroke}
 
 -- ---- `begin`
@@ -126,21 +128,30 @@ pub record LeavesSeat {A : Type 0} (before : SeatContent A) (now : TalkingSeat A
   pub same : now.seat ≡ before
   pub none : edits ≡ []
 
--- a request is answered where no draft is open
-abbrev pub IsAnsweredOutside : (A : Type 0) → SeatContent A → TalkingSeat A → Request → List ℕ → List (Edit A) → Type 0
-IsAnsweredOutside A before now Begin answer edits = IsBegun before now answer × (edits ≡ [])
-IsAnsweredOutside A before now Commit answer edits = (answer ≡ draft_reply_text NoDraft) × (now.draft ≡ None) × LeavesSeat before now edits
-IsAnsweredOutside A before now Drop answer edits = (answer ≡ draft_reply_text NoDraft) × (now.draft ≡ None) × LeavesSeat before now edits
-IsAnsweredOutside A before now request answer edits = IsRequestAnswered A before now.seat request answer edits × (now.draft ≡ None)
+-- a request about this is answered where no draft is open; `quit` gets no answer
+abbrev pub IsAnsweredOutsideOf : Subject → (A : Type 0) → SeatContent A → TalkingSeat A → Request → List ℕ → List (Edit A) → Type 0
+IsAnsweredOutsideOf subject.Begin A before now request answer edits = IsBegun before now answer × (edits ≡ [])
+IsAnsweredOutsideOf subject.Commit A before now request answer edits = (answer ≡ draft_reply_text NoDraft) × (now.draft ≡ None) × LeavesSeat before now edits
+IsAnsweredOutsideOf subject.Drop A before now request answer edits = (answer ≡ draft_reply_text NoDraft) × (now.draft ≡ None) × LeavesSeat before now edits
+IsAnsweredOutsideOf subject.Desk A before now request answer edits = IsRequestAnswered A before now.seat request answer edits × (now.draft ≡ None)
+IsAnsweredOutsideOf subject.Movie A before now request answer edits = IsRequestAnswered A before now.seat request answer edits × (now.draft ≡ None)
+IsAnsweredOutsideOf subject.End A before now request answer edits = ⊥
 
--- a request is answered in a draft. `share` and `history` are about the desk; of the others the seat sees `commit` alone
+abbrev pub IsAnsweredOutside : (A : Type 0) → SeatContent A → TalkingSeat A → Request → List ℕ → List (Edit A) → Type 0
+IsAnsweredOutside A before now request answer edits = IsAnsweredOutsideOf (subject_of request) A before now request answer edits
+
+-- a request about this is answered in a draft: of those about a movie and of `begin` and `drop` the seat sees nothing
+abbrev pub IsAnsweredInsideOf : Subject → (A : Type 0) → SeatContent A → DraftContent → TalkingSeat A → Request → List ℕ → List (Edit A) → Type 0
+IsAnsweredInsideOf subject.Begin A before draft now request answer edits = (answer ≡ draft_reply_text InDraft) × (now.draft ≡ Some draft) × LeavesSeat before now edits
+IsAnsweredInsideOf subject.Commit A before draft now request answer edits = IsCommitted before draft now answer edits
+IsAnsweredInsideOf subject.Drop A before draft now request answer edits = (answer ≡ draft_reply_text Dropped) × (now.draft ≡ None) × LeavesSeat before now edits
+IsAnsweredInsideOf subject.Desk A before draft now request answer edits = IsRequestAnswered A before now.seat request answer edits × (now.draft ≡ Some draft)
+IsAnsweredInsideOf subject.Movie A before draft now request answer edits =
+    (next : DraftContent) × IsDraftAnswered draft request answer next × IsDraft next × (now.draft ≡ Some next) × LeavesSeat before now edits
+IsAnsweredInsideOf subject.End A before draft now request answer edits = ⊥
+
 abbrev pub IsAnsweredInside : (A : Type 0) → SeatContent A → DraftContent → TalkingSeat A → Request → List ℕ → List (Edit A) → Type 0
-IsAnsweredInside A before draft now Begin answer edits = (answer ≡ draft_reply_text InDraft) × (now.draft ≡ Some draft) × LeavesSeat before now edits
-IsAnsweredInside A before draft now Commit answer edits = IsCommitted before draft now answer edits
-IsAnsweredInside A before draft now Drop answer edits = (answer ≡ draft_reply_text Dropped) × (now.draft ≡ None) × LeavesSeat before now edits
-IsAnsweredInside A before draft now Share answer edits = IsRequestAnswered A before now.seat Share answer edits × (now.draft ≡ Some draft)
-IsAnsweredInside A before draft now (History from) answer edits = IsRequestAnswered A before now.seat (History from) answer edits × (now.draft ≡ Some draft)
-IsAnsweredInside A before draft now request answer edits = (next : DraftContent) × IsDraftAnswered draft request answer next × IsDraft next × (now.draft ≡ Some next) × LeavesSeat before now edits
+IsAnsweredInside A before draft now request answer edits = IsAnsweredInsideOf (subject_of request) A before draft now request answer edits
 
 -- a request of a conversation is answered
 abbrev pub IsTalkAnswered : (A : Type 0) → SeatContent A → Option DraftContent → TalkingSeat A → Request → List ℕ → List (Edit A) → Type 0

@@ -1,6 +1,5 @@
 -- Drafts: changes of a movie that a conversation gathers before it makes them as one step, and the answers to lines meanwhile.
-use Rattle.std.specs.Prelude.{codes, ◌≡◌, ℕ, ◌+◌, ◌-◌, ◌<◌, ◌≤◌, ◌==◌, nat_le, List, [], ◌∷◌, length, take, drop, reverse, min, filter, Option, None, Some, false, if◌then◌else◌, ◌⊎◌}
-use Rattle.std.specs.List.{flat_map}
+use Rattle.std.specs.Prelude.{codes, ◌≡◌, ℕ, ◌+◌, ◌-◌, ◌<◌, ◌≤◌, ◌==◌, nat_le, List, [], ◌∷◌, length, take, drop, reverse, min, filter, MatchOption, false, if◌then◌else◌, ◌⊎◌}
 use Rattle.vcs_inputs.specs.declared.input.Input.{Input}
 use Rattle.tas_movie.specs.Content.{MovieContent}
 use Rattle.tas_movie.specs.declared.edit.Edit.{Edit}
@@ -11,7 +10,6 @@ use Rattle.tas_green.specs.declared.savestate.Savestate.{Savestate}
 use Rattle.tas_green.specs.Green.{IsLawful, IsReachedFrom}
 use Rattle.tas_green.specs.View.{ViewContent}
 use Rattle.tas_green.specs.Window.{AreMovieStates, IsPlayedNear, both}
-use Rattle.tas_session.specs.Answers.{answer_shot}
 use Rattle.tas_published.specs.History.{most_edits}
 use Rattle.tas_session.specs.Session.{left_by}
 use Rattle.tas_language.specs.declared.change.Change.{Change}
@@ -19,11 +17,11 @@ use Rattle.tas_language.specs.declared.command.Command.TheVariants.{Load, Edit a
 use Rattle.tas_language.specs.declared.reply.Reply.TheVariants.{Worked, OutOfMemory}
 use Rattle.tas_language.specs.Replies.{reply_text}
 use Rattle.tas_language.specs.declared.request.Request.{Request}
-use Rattle.tas_language.specs.declared.request.Request.TheVariants.{Do, Picture, Pictures, Ram, Digest, Lag, Movie, States, Share, History, Begin, Commit, Drop, Quit}
+use Rattle.tas_language.specs.declared.request.Request.TheVariants.{Do, Picture, Pictures, Movie, States, Share}
 use Rattle.tas_engines.specs.Changes.{edit_of, BringsCopies}
 use Rattle.tas_seat.specs.Turns.{Standing, reply_to_edit, standing_after_edit}
 use Rattle.tas_seat.specs.Edits.{requested_edits, made_between}
-use Rattle.tas_seat.specs.Requests.{TalkState, IsAnswerTo, answer_ram, answer_lag}
+use Rattle.tas_seat.specs.Requests.{TalkState, IsLooked, look_text, look_places, IsStrip, KeepsAll, IsAnswerTo}
 
 -- ---- a draft
 
@@ -84,21 +82,14 @@ pub record IsDraftAfter (draft : DraftContent) (request : Request) (next : TalkS
   pub stands : draft_standing draft' ≡ next.stands
   pub states : draft'.states ≡ left_by_edits draft.movie (made_between (draft_standing draft) next.stands (requested_edits (Unit {0}) draft.movie request)) next.states
 
--- what a line that plays up to the place `end`, for k, leaves of a draft's states and its window, where the definition answers this: the frames were played
--- from both, or memory was refused and the draft is as it was; so it is where the movie hasn't the frames
-abbrev pub LookLeavesDraft : {X : Type 0} → ℕ → ℕ → DraftContent → DraftContent → List ℕ → Option X → Type 0
-LookLeavesDraft k end draft draft' answer None = draft' ≡ draft
-LookLeavesDraft k end draft draft' answer (Some shown) =
-    ((ran : ℕ) × IsPlayedNear draft.movie draft.movie k end (both draft.states draft.near) (both draft'.states draft'.near) ran) ⊎ ((answer ≡ reply_text OutOfMemory) × (draft' ≡ draft))
-
--- what a line leaves of them: the looks that use the window fill it, and what the line changed is cut off it at once
+-- what a line leaves of the states and the window: a look plays from both and fills them, or the draft is as it was; and what another line changed is cut
+-- off the window at once
 abbrev pub LeavesNear : DraftContent → Request → List ℕ → DraftContent → Type 0
-LeavesNear draft (Picture k) answer draft' = LookLeavesDraft k (k + 1) draft draft' answer (answer_shot draft.movie k)
-LeavesNear draft (Ram k) answer draft' = LookLeavesDraft k k draft draft' answer (answer_ram draft.movie k)
-LeavesNear draft (Digest k) answer draft' = LookLeavesDraft k k draft draft' answer (answer_shot draft.movie k)
-LeavesNear draft (Lag a b) answer draft' = LookLeavesDraft a a draft draft' answer (answer_lag draft.movie a b)
 LeavesNear draft request answer draft' =
-    draft'.near ≡ near_left_by_edits draft.movie (made_between (draft_standing draft) (draft_standing draft') (requested_edits (Unit {0}) draft.movie request)) draft.near
+    MatchOption (look_places request)
+    (draft'.near ≡ near_left_by_edits draft.movie (made_between (draft_standing draft) (draft_standing draft') (requested_edits (Unit {0}) draft.movie request)) draft.near)
+    (λ at. IsLooked (draft_standing draft) (look_text (draft_standing draft) request) (draft' ≡ draft)
+    (IsPlayedNear draft.movie draft.movie at.0 at.1 (both draft.states draft.near) (both draft'.states draft'.near)) answer)
 
 -- a request is answered at a draft as at a history with its movie, its number of edits and its greenzone
 pub record IsAnsweredInDraft (draft : DraftContent) (request : Request) (answer : List ℕ) (draft' : DraftContent) : Type 0 where
@@ -107,19 +98,9 @@ pub record IsAnsweredInDraft (draft : DraftContent) (request : Request) (answer 
   pub after : IsDraftAfter draft request next draft'
   pub window : LeavesNear draft request answer draft'
 
--- a picture of a strip: its answer, and the draft then
-pub record DraftPicture : Type 0 where
-  pub answer : List ℕ
-  pub next : DraftContent
-
--- frames from `from` on are answered as by `picture`; the last draft is what all of them left
-unfoldable pub AreDraftPictures : DraftContent → ℕ → List DraftPicture → DraftContent → Type 0
-AreDraftPictures draft from [] last = last ≡ draft
-AreDraftPictures draft from (shown ∷ strip) last = IsAnsweredInDraft draft (Picture from) shown.answer shown.next × AreDraftPictures shown.next (from + 1) strip last
-
--- the answers of a strip, one after the other
-abbrev pub draft_pictures : List DraftPicture → List ℕ
-draft_pictures strip = flat_map (λ shown. shown.answer) strip
+-- so is a picture of a strip
+abbrev pub IsPictureIn : DraftContent → ℕ → List ℕ → DraftContent → Type 0
+IsPictureIn draft k answer draft' = IsAnsweredInDraft draft (Picture k) answer draft'
 
 -- nobody else keeps states for a draft. So `work k` is one job with no stale state: the states are kept that playing up to frame k leaves, or up to
 -- the movie's end, and the answer has how many more these are; where memory is refused for it the same are kept as before
@@ -139,8 +120,7 @@ IsDraftEdit draft change answer draft' =
 -- it. `movie` and `states` leave its greenzone. `history` and `share` are about the desk, and `begin`, `commit`, `drop` and `quit` about the conversation
 abbrev pub IsDraftAnswered : DraftContent → Request → List ℕ → DraftContent → Type 0
 IsDraftAnswered draft (Do (Load image)) answer draft' = (answer ≡ in_draft_text) × (draft' ≡ draft)
-IsDraftAnswered draft (Pictures from to) answer draft' =
-    (strip : List DraftPicture) × (length strip ≡ to - from) × AreDraftPictures draft from strip draft' × (answer ≡ draft_pictures strip)
+IsDraftAnswered draft (Pictures from to) answer draft' = IsStrip IsPictureIn draft from to answer draft'
 IsDraftAnswered draft (Do (EditLine change)) answer draft' = IsAnsweredInDraft draft (Do (EditLine change)) answer draft' × IsDraftEdit draft change answer draft'
 IsDraftAnswered draft (Do (Work k)) answer draft' = IsAnsweredInDraft draft (Do (Work k)) answer draft' × IsDraftWork draft k answer draft'
 IsDraftAnswered draft Movie answer draft' = IsAnsweredInDraft draft Movie answer draft' × (draft'.states ≡ draft.states)
@@ -148,20 +128,9 @@ IsDraftAnswered draft States answer draft' = IsAnsweredInDraft draft States answ
 IsDraftAnswered draft Share answer draft' = ⊥
 IsDraftAnswered draft request answer draft' = IsAnsweredInDraft draft request answer draft'
 
--- a request that isn't about a draft
-abbrev pub IsAboutDesk : Request → Type 0
-IsAboutDesk Share = Unit {0}
-IsAboutDesk (History from) = Unit {0}
-IsAboutDesk Begin = Unit {0}
-IsAboutDesk Commit = Unit {0}
-IsAboutDesk Drop = Unit {0}
-IsAboutDesk Quit = Unit {0}
-IsAboutDesk _ = ⊥
-
--- what a request that isn't answered leaves: the draft as it was; or, of a strip, as its first pictures left it, fewer than it asks for
+-- what a request that isn't answered leaves
 abbrev pub KeepsDraft : Request → DraftContent → DraftContent → Type 0
-KeepsDraft (Pictures from to) draft draft' = (strip : List DraftPicture) × (length strip < to - from) × AreDraftPictures draft from strip draft'
-KeepsDraft request draft draft' = draft' ≡ draft
+KeepsDraft request draft draft' = KeepsAll IsPictureIn request draft draft'
 
 -- memory was refused for an answer: nothing was changed; or the request was carried out
 abbrev pub IsDraftUnanswered : DraftContent → Request → DraftContent → Type 0

@@ -3,6 +3,7 @@ pub mod Requests
 pub mod Edits
 pub mod HistoryText
 pub mod Seats
+pub mod Subjects
 pub mod Drafts
 pub mod Conversations
 pub mod Outcomes

@@ -1,7 +1,5 @@
 -- What came of a request: an answer, or a fault. What else is here gives names to parts of an answer, for private functions.
-use Rattle.std.specs.Prelude.{◌≡◌, ℕ, ◌-◌, ◌<◌, List, [], ◌∷◌, length, Bool, Option, Some, None, Result, Ok, Err, ◌⊎◌}
-use Rattle.vcs_cpu.specs.declared.halt.Halt.{Halt}
-use Rattle.tas_movie.specs.Content.{MovieContent}
+use Rattle.std.specs.Prelude.{◌≡◌, ℕ, List, [], ◌∷◌, length, Bool, Option, Some, None, Result, Ok, Err, ◌⊎◌}
 use Rattle.tas_movie.specs.declared.edit.Edit.{Edit}
 use Rattle.tas_movie.specs.declared.edit.EditRefusal.{EditRefusal}
 use Rattle.tas_movie.specs.Edit.{edited}
@@ -10,7 +8,6 @@ use Rattle.tas_session.specs.declared.replies.EditError.{EditError}
 use Rattle.tas_session.specs.declared.replies.EditError.TheVariants.{Serial, Full as AllMade, Place as OutOfPlace, Long as OverLong, Memory as NoRoom}
 use Rattle.tas_published.specs.declared.errors.ShotError.{ShotError}
 use Rattle.tas_published.specs.declared.errors.ShotError.TheVariants.{NoEntry as NoShotEntry, NoFrame as NoShotFrame, Memory as NoShotMemory, Halted as ShotHalted}
-use Rattle.tas_session.specs.Answers.{answer_shot}
 use Rattle.tas_published.specs.History.{movie_of, entries_of}
 use Rattle.tas_desk.specs.Seats.{SeatContent, HasSeen}
 use Rattle.tas_engines.specs.declared.fault.RunFault.{RunFault}
@@ -19,12 +16,12 @@ use Rattle.tas_language.specs.declared.reply.Reply.{Reply}
 use Rattle.tas_language.specs.declared.reply.Reply.TheVariants.{Full, Place, Long, NoFrame, OutOfMemory}
 use Rattle.tas_language.specs.declared.request.Request.{Request}
 use Rattle.tas_language.specs.declared.command.Command.TheVariants.{Length, InputAt, Shot}
-use Rattle.tas_language.specs.declared.request.Request.TheVariants.{Do, Picture, Pictures, Ram, Digest, Lag, Begin, Commit, Drop, Quit}
+use Rattle.tas_language.specs.declared.request.Request.TheVariants.{Do, Picture, Pictures, Ram, Digest, Lag}
 use Rattle.tas_seat.specs.declared.edit_requests.EditRequest.{EditRequest}
 use Rattle.tas_seat.specs.Edits.{made_between}
 use Rattle.tas_seat.specs.Turns.{Standing, standing_of, refused_reply, edit_reply, standing_unless, halted_reply}
-use Rattle.tas_seat.specs.Requests.{drawn_digest}
-use Rattle.tas_seat.specs.Seats.{IsSeatAfter, StripAnswer, AreStrip, IsRequestAnswered}
+use Rattle.tas_seat.specs.Requests.{KeepsAll}
+use Rattle.tas_seat.specs.Seats.{IsSeatAfter, IsPictureAt, IsRequestAnswered}
 use Rattle.tas_seat.specs.Drafts.{DraftContent, KeepsDraft}
 use Rattle.tas_seat.specs.Conversations.{TalkingSeat, IsTalkAnswered}
 use Rattle.tas_seat.specs.Inside.EditRequests.{requested_refusal, requested_edit}
@@ -57,12 +54,6 @@ pub record IsEditAnswered (A : Type 0) (before now : SeatContent A) (asked : Edi
   pub zone : now.zone ≡ before.zone
   pub seat : IsSeatAfter before at (made_between (standing_of at) (standing_of now.front) (requested_edit A asked (movie_of at) ∷ [])) now
 
--- this text answers `digest K` at this many edits of a movie that has the frame
-pub record IsDigest (made : ℕ) (movie : MovieContent) (k : ℕ) (text : List ℕ) : Type 0 where
-  pub shown : Result (List ℕ) Halt
-  pub there : answer_shot movie k ≡ Some shown
-  pub text_is : text ≡ drawn_digest (record { movie = movie; made = made }) k shown
-
 -- the history that the seat has seen has another number of its edits than it made. Where it was the seat's alone to make them, this never
 -- comes
 pub record IsMiscounted {A : Type 0} (before now : SeatContent A) : Type 0 where
@@ -79,10 +70,9 @@ IsUnanswered before now _ = ⊥
 abbrev pub HasAnswer : (A : Type 0) → SeatContent A → SeatContent A → Request → List ℕ → Type 0
 HasAnswer A before now request answer = (edits : List (Edit A)) × IsRequestAnswered A before now request answer edits
 
--- what a request that isn't answered leaves: the seat as it was; or, of a strip, as its first pictures left it, fewer than it asks for
+-- what a request that isn't answered leaves
 abbrev pub KeepsSeat : {A : Type 0} → Request → SeatContent A → SeatContent A → Type 0
-KeepsSeat {A} (Pictures from to) before now = (strip : List (StripAnswer A)) × (length strip < to - from) × AreStrip before from strip now
-KeepsSeat request before now = now ≡ before
+KeepsSeat {A} request before now = KeepsAll (IsPictureAt {A = A}) request before now
 
 -- why a request isn't answered: as a command, but that the first pictures of a strip may have been drawn; or it was carried out, and memory was
 -- refused for its answer
@@ -91,14 +81,6 @@ HasNoAnswer before now request NoEntry = KeepsSeat request before now
 HasNoAnswer before now request Foreign = IsMiscounted before now
 HasNoAnswer {A} before now request Memory = KeepsSeat request before now ⊎ ((answer : List ℕ) × HasAnswer A before now request answer)
 HasNoAnswer before now request _ = ⊥
-
--- requests about the conversation itself, its draft and its end, of which no desk knows
-abbrev pub IsAboutTalk : Request → Type 0
-IsAboutTalk Begin = Unit {0}
-IsAboutTalk Commit = Unit {0}
-IsAboutTalk Drop = Unit {0}
-IsAboutTalk Quit = Unit {0}
-IsAboutTalk _ = ⊥
 
 -- requests that are answered through the seat's reader; where the desk is asked for another, it answers under its lock
 abbrev pub IsLook : Request → Type 0

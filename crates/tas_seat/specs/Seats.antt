@@ -1,26 +1,23 @@
 -- At which histories a seat is answered, and what the seat is afterwards.
-use Rattle.std.specs.Prelude.{◌≡◌, ℕ, ◌+◌, ◌-◌, List, [], ◌∷◌, ◌++◌, length, take, drop, Bool, if◌then◌else◌, Option, None, Some, Result, ◌⊎◌}
-use Rattle.std.specs.List.{flat_map}
+use Rattle.std.specs.Prelude.{◌≡◌, ℕ, ◌+◌, List, [], ◌∷◌, ◌++◌, length, take, drop, Bool, if◌then◌else◌, MatchOption, ◌⊎◌}
 use mathlib.Core.List.{IsPrefix}
-use Rattle.vcs_cpu.specs.declared.halt.Halt.{Halt}
 use Rattle.tas_movie.specs.declared.edit.Edit.{Edit}
 use Rattle.tas_published.specs.declared.entry.Entry.{Entry}
-use Rattle.tas_session.specs.Answers.{answer_shot}
+use Rattle.tas_green.specs.Window.{IsPlayedNear, both}
 use Rattle.tas_published.specs.History.{movie_of}
 use Rattle.tas_desk.specs.Seats.{SeatContent, entry_of}
-use Rattle.tas_desk.specs.States.{IsReached}
 use Rattle.tas_desk.specs.Work.{IsTally, KeepsCart}
-use Rattle.tas_desk.specs.Zones.{ZoneContent, CutsWindow, IsViewed}
+use Rattle.tas_desk.specs.Zones.{ZoneContent, CutsWindow, IsMadeFor}
 use Rattle.tas_language.specs.declared.command.Command.{Command}
 use Rattle.tas_language.specs.declared.command.Command.TheVariants.{Shot, Work}
 use Rattle.tas_language.specs.declared.reply.Reply.{Reply}
 use Rattle.tas_language.specs.declared.reply.Reply.TheVariants.{Worked, OutOfMemory}
 use Rattle.tas_language.specs.Replies.{reply_text}
 use Rattle.tas_language.specs.declared.request.Request.{Request}
-use Rattle.tas_language.specs.declared.request.Request.TheVariants.{Do, Retouch, Picture, Pictures, Ram, Digest, Lag, History}
+use Rattle.tas_language.specs.declared.request.Request.TheVariants.{Do, Retouch, Picture, Pictures, History}
 use Rattle.tas_seat.specs.Edits.{edits_by_command, requested_edits, made_between}
 use Rattle.tas_seat.specs.Turns.{standing_of, IsTurn}
-use Rattle.tas_seat.specs.Requests.{TalkState, CommandLeaves, IsAnswerTo, answer_ram, answer_lag}
+use Rattle.tas_seat.specs.Requests.{TalkState, CommandLeaves, IsLooked, look_text, look_places, IsStrip, IsAnswerTo}
 use Rattle.tas_seat.specs.HistoryText.{history_reply_text}
 
 -- a seat's edits as entries of the history, from this serial on
@@ -50,29 +47,23 @@ CommandLeavesZone before now (Shot k) = KeepsWindow before now
 CommandLeavesZone before now (Work k) = KeepsWindow before now
 CommandLeavesZone before now _ = now ≡ before
 
--- what a line that plays from both leaves of them, where the definition answers this: `left` says it after this many played frames; or memory was
--- refused, and they are as they were. So they are where the movie hasn't the frames
-abbrev pub LookLeavesZone : {A X : Type 0} → (ℕ → Type 0) → SeatContent A → SeatContent A → List ℕ → Option X → Type 0
-LookLeavesZone left before now answer None = now.zone ≡ before.zone
-LookLeavesZone left before now answer (Some shown) = ((ran : ℕ) × left ran) ⊎ ((answer ≡ reply_text OutOfMemory) × (now.zone ≡ before.zone))
+-- a look played from zone and window: both were cut for the history's movie, `ran` frames were played from the nearest state of both, for k, and both are
+-- filled up to the place `end`
+pub record IsZonePlayed {A : Type 0} (before now : ZoneContent A) (front : List (Entry A)) (k end ran : ℕ) : Type 0 where
+  pub made : IsMadeFor now front
+  pub played : IsPlayedNear before.movie now.movie k end (both before.states before.window) (both now.states now.window) ran
 
--- what `picture K` leaves of both, where the definition answers this: the frame was viewed from them
-abbrev pub PictureLeavesZone : {A : Type 0} → SeatContent A → SeatContent A → ℕ → List ℕ → Option (Result (List ℕ) Halt) → Type 0
-PictureLeavesZone before now k answer found = LookLeavesZone (IsViewed before.zone now.zone now.front k) before now answer found
-
--- what `ram K`, `digest K` and `lag K B` leave of both: the state after K frames was reached from them
-abbrev pub StateLeavesZone : {A X : Type 0} → SeatContent A → SeatContent A → ℕ → List ℕ → Option X → Type 0
-StateLeavesZone before now k answer found = LookLeavesZone (IsReached before.zone now.zone now.front k) before now answer found
+-- what a look leaves of both: it played from them, or they are as they were. What other lines do: their window may be cut, too
+abbrev pub LookLeavesZone : {A : Type 0} → SeatContent A → SeatContent A → Request → List ℕ → Type 0
+LookLeavesZone before now request answer =
+    MatchOption (look_places request) (KeepsWindow before.zone now.zone)
+    (λ at. IsLooked (standing_of now.front) (look_text (standing_of now.front) request) (now.zone ≡ before.zone) (IsZonePlayed before.zone now.zone now.front at.0 at.1) answer)
 
 -- what a request leaves of both
 abbrev pub LeavesZone : {A : Type 0} → SeatContent A → SeatContent A → Request → List ℕ → Type 0
 LeavesZone before now (Do command) answer = CommandLeavesZone before.zone now.zone command
 LeavesZone before now (Retouch retouch) answer = now.zone ≡ before.zone
-LeavesZone before now (Picture k) answer = PictureLeavesZone before now k answer (answer_shot (movie_of now.front) k)
-LeavesZone before now (Ram k) answer = StateLeavesZone before now k answer (answer_ram (movie_of now.front) k)
-LeavesZone before now (Digest k) answer = StateLeavesZone before now k answer (answer_shot (movie_of now.front) k)
-LeavesZone before now (Lag a b) answer = StateLeavesZone before now a answer (answer_lag (movie_of now.front) a b)
-LeavesZone before now _ answer = KeepsWindow before.zone now.zone
+LeavesZone before now request answer = LookLeavesZone before now request answer
 
 -- what the reply to `work` counts is one job's: it gained no more states than a zone can have, or it was stale and gained none; it isn't stale where
 -- no other cartridge is loaded after what the seat had seen
@@ -103,19 +94,9 @@ pub record IsAnsweredAt (A : Type 0) (before now : SeatContent A) (request : Req
   pub zone : LeavesZone before now request answer
   pub counts : AnswerCountsWork before.front now.front request answer
 
--- a picture of a strip: its answer, and the seat then
-pub record StripAnswer (A : Type 0) : Type 0 where
-  pub answer : List ℕ
-  pub next : SeatContent A
-
--- frames from `from` on are answered as by `picture`, each at a history of its own; the last seat is what all of them left
-unfoldable pub AreStrip : {A : Type 0} → SeatContent A → ℕ → List (StripAnswer A) → SeatContent A → Type 0
-AreStrip seat from [] last = last ≡ seat
-AreStrip {A} seat from (shown ∷ strip) last = IsAnsweredAt A seat shown.next (Picture from) shown.answer [] × AreStrip shown.next (from + 1) strip last
-
--- the answers of a strip, one after the other
-abbrev pub strip_answers : {A : Type 0} → List (StripAnswer A) → List ℕ
-strip_answers strip = flat_map (λ shown. shown.answer) strip
+-- a picture of a strip, answered at a history of its own
+abbrev pub IsPictureAt : {A : Type 0} → SeatContent A → ℕ → List ℕ → SeatContent A → Type 0
+IsPictureAt {A = A} before k answer now = IsAnsweredAt A before now (Picture k) answer []
 
 -- how many entries one answer reports at most
 abbrev pub most_entries : ℕ
@@ -130,7 +111,6 @@ pub record IsHistoryAnswered (A : Type 0) (before now : SeatContent A) (from : �
 
 -- a request is answered, and makes these edits
 abbrev pub IsRequestAnswered : (A : Type 0) → SeatContent A → SeatContent A → Request → List ℕ → List (Edit A) → Type 0
-IsRequestAnswered A before now (Pictures from to) answer edits =
-    (edits ≡ []) × (strip : List (StripAnswer A)) × (length strip ≡ to - from) × AreStrip before from strip now × (answer ≡ strip_answers strip)
+IsRequestAnswered A before now (Pictures from to) answer edits = (edits ≡ []) × IsStrip (IsPictureAt {A = A}) before from to answer now
 IsRequestAnswered A before now (History from) answer edits = (edits ≡ []) × IsHistoryAnswered A before now from answer
 IsRequestAnswered A before now request answer edits = IsAnsweredAt A before now request answer edits

@@ -36,8 +36,11 @@ pub record Standing : Type 0 where
   pub movie : MovieContent
   pub made : ℕ
 
+abbrev pub standing_at : MovieContent → ℕ → Standing
+standing_at movie made = record { movie = movie; made = made }
+
 abbrev pub standing_of : {A : Type 0} → List (Entry A) → Standing
-standing_of history = record { movie = movie_of history; made = length history }
+standing_of history = standing_at (movie_of history) (length history)
 
 -- ---- edits
 

@@ -12,6 +12,7 @@ ghost use Rattle.tas_seat.specs.Seats.{IsAnswered};
 ghost use Rattle.tas_seat.specs.Outcomes.{unshown_as, IsUnanswered, IsLook};
 
 use crate::edit_requests::{EditRequest, make_edit};
+use crate::looks::reply_to_shot;
 use std::alloc::Allocator;
 use std::sync::Wait;
 use tas_desk::{CloseOnDrop, Desk, Gate, InputError, Name, Seat, ShotError, Worked};
@@ -86,17 +87,8 @@ fn draw<N: Name, W: CloseOnDrop, A: Allocator + Copy>(
     ensures { MatchResult result (IsAnswered A seat.old seat.new (ShotLine frame))
         (IsUnanswered seat.old seat.new) }
 {
-    let shot = match desk.shot(alloc, seat, frame) {
-        Ok(shot) => shot,
-        Err(error) => return unshown_as(error),
-    };
-    let lit = shot.picture.lit();
-    Ok(Reply::Drawn {
-        at: shot.at,
-        frame: shot.frame,
-        ran: shot.ran,
-        lit,
-    })
+    let drawn = desk.shot(alloc, seat, frame);
+    reply_to_shot(drawn)
 }
 
 /// A gate that stands open.

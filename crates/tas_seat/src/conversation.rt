@@ -15,7 +15,8 @@ ghost use Rattle.tas_language.specs.Drafts.{draft_reply_text};
 ghost use Rattle.tas_language.specs.declared.request.Request.TheVariants.{Begin as BeginLine, Commit as CommitLine, Drop as DropLine, Quit as QuitLine};
 ghost use Rattle.tas_seat.specs.Conversations.{talking};
 ghost use Rattle.tas_seat.specs.Drafts.{fresh_draft};
-ghost use Rattle.tas_seat.specs.Inside.Conversing.{subject_of, HasMoved, HasOutcome, HasNoOutcome};
+ghost use Rattle.tas_seat.specs.Subjects.{subject_of};
+ghost use Rattle.tas_seat.specs.Inside.Conversing.{HasMoved, HasOutcome, HasNoOutcome};
 ghost use Rattle.tas_seat.specs.declared.conversation.Subject.TheVariants.{Movie as AboutMovie};
 ghost use Rattle.tas_seat.specs.Outcomes.{HasTalkAnswer, HasNoTalkAnswer, IsLook};
 
@@ -30,7 +31,7 @@ use tas_language::{DraftReply, Reply, Request, draft_reply_line};
 
 /// What a request of a conversation is about.
 #[derive(Clone, Copy)]
-enum Subject {
+pub enum Subject {
     /// `begin`: a draft that isn't open yet.
     Begin,
     /// `commit`: the draft's change.

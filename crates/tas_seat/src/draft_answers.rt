@@ -1,20 +1,75 @@
-//! Answering a request at a draft.
+//! Answering a request at a draft. Looks are answered as at a seat (`looks.rt`), by what the draft's view has.
 
 ghost use Rattle.std.specs.Prelude.{◌≡◌, Ok, None, MatchOption, MatchResult};
 ghost use Rattle.tas_engines.specs.declared.fault.RunFault.TheVariants.{Memory};
 ghost use Rattle.tas_language.specs.declared.command.Command.TheVariants.{Edit as EditLine, Length as LengthLine, InputAt as InputLine, Shot as ShotLine, Work as WorkLine};
-ghost use Rattle.tas_language.specs.declared.request.Request.TheVariants.{Do as ScriptLine, Retouch as RetouchLine, Pictures as PicturesLine};
-ghost use Rattle.tas_seat.specs.Drafts.{IsDraft, IsDraftAnswered, IsDraftUnanswered, IsAboutDesk};
-ghost use Rattle.tas_seat.specs.Inside.Drafting.{IsDraftReply, HasNoDraftAnswer};
+ghost use Rattle.tas_language.specs.declared.request.Request.TheVariants.{Do as ScriptLine, Retouch as RetouchLine, Picture as PictureLine, Pictures as PicturesLine, Movie as MovieLine, States as StatesLine};
+ghost use Rattle.tas_seat.specs.Subjects.{IsAboutDesk};
+ghost use Rattle.tas_seat.specs.Drafts.{IsDraft, IsDraftAnswered, IsDraftUnanswered};
+ghost use Rattle.tas_seat.specs.Inside.Drafting.{IsDraftReply, IsDraftShot, IsDraftPicture, IsDraftStateFor, HasNoDraftAnswer};
+ghost use Rattle.tas_seat.specs.Inside.Looking.{IsStateLook};
 
 use crate::Draft;
 use crate::edit_requests::EditRequest;
-use crate::requests::{answer_of_reply, unshown_answer};
+use crate::looks::{answer_drawn, answer_reached, frames_for, reply_to_shot};
+use crate::requests::{answer_of_reply, answer_or_refusal, list_states};
 use std::alloc::Allocator;
+use tas_desk::{Reached, Shot, ShotError, StateError};
 use tas_engines::RunFault;
-use tas_language::{Change, Command, Reply, Request, Retouch};
+use tas_language::{Change, Command, Reply, Request, Retouch, movie_answer};
+use tas_session::shown;
+use vcs_tia::Picture;
 
 impl<A: Allocator + Copy> Draft<A> {
+    /// Draws frame `k` from the draft's greenzone; the window isn't used.
+    fn shot(&mut self, alloc: A, k: usize) -> Result<Shot<A>, ShotError>
+        ensures { IsDraftShot self.old self.new k result }
+    {
+        let at = self.edits();
+        let len = self.movie().len();
+        if k >= len {
+            return Err(ShotError::NoFrame { at, len });
+        }
+        let Ok(mut picture) = Picture::blank(alloc) else {
+            return Err(ShotError::Memory);
+        };
+        let played = self.view.shot(k, &mut picture).unwrap();
+        shown(at, k, played.ran, picture, played.end)
+    }
+
+    /// Draws frame `k` from the draft's greenzone and its window.
+    fn picture(&mut self, alloc: A, k: usize) -> Result<Shot<A>, ShotError>
+        ensures { IsDraftPicture self.old self.new k result }
+    {
+        let at = self.edits();
+        let len = self.movie().len();
+        if k >= len {
+            return Err(ShotError::NoFrame { at, len });
+        }
+        let Ok(mut picture) = Picture::blank(alloc) else {
+            return Err(ShotError::Memory);
+        };
+        let viewed = self.view.picture(k, &mut picture).unwrap();
+        shown(at, k, viewed.ran, picture, viewed.end)
+    }
+
+    /// The machine after `from` frames, from the draft's greenzone and its window, where `from` is at most `to`, and `to` at most the movie's length.
+    fn state_for(&mut self, from: usize, to: usize) -> Result<Reached, StateError>
+        ensures { IsDraftStateFor self.old self.new from to result }
+    {
+        let at = self.edits();
+        let len = self.movie().len();
+        if from > to || to > len {
+            return Err(StateError::NoFrame { at, len });
+        }
+        let reached = self.view.state(from).unwrap();
+        Ok(Reached {
+            at,
+            ran: reached.ran,
+            state: reached.state,
+        })
+    }
+
     /// An `insert`, `replace` or `delete` line.
     fn reply_to_change(&mut self, alloc: A, change: Change) -> Reply
         ensures { IsDraftReply self.old self.new (ScriptLine (EditLine change)) result }
@@ -78,17 +133,51 @@ impl<A: Allocator + Copy> Draft<A> {
             (λ bytes. IsDraftAnswered self.old (ScriptLine (ShotLine frame)) bytes.items self.new)
             (HasNoDraftAnswer self.old self.new (ScriptLine (ShotLine frame))) }
     {
-        let shot = match self.shot(alloc, frame) {
-            Ok(shot) => shot,
-            Err(error) => return unshown_answer(alloc, error),
-        };
-        let reply = Reply::Drawn {
-            at: shot.at,
-            frame: shot.frame,
-            ran: shot.ran,
-            lit: shot.picture.lit(),
-        };
+        let drawn = self.shot(alloc, frame);
+        let reply = reply_to_shot(drawn)?;
         answer_of_reply(alloc, reply)
+    }
+
+    /// A `picture` line.
+    fn answer_picture(&mut self, alloc: A, frame: usize) -> Result<Vec<u8, A>, RunFault>
+        ensures { MatchResult result
+            (λ bytes. IsDraftAnswered self.old (PictureLine frame) bytes.items self.new)
+            (HasNoDraftAnswer self.old self.new (PictureLine frame)) }
+    {
+        let drawn = self.picture(alloc, frame);
+        answer_drawn(alloc, frame, drawn)
+    }
+
+    /// A `ram`, `digest` or `lag` line.
+    fn answer_look(&mut self, alloc: A, look: Request) -> Result<Vec<u8, A>, RunFault>
+        requires { IsStateLook look }
+        ensures { MatchResult result
+            (λ bytes. IsDraftAnswered self.old look bytes.items self.new)
+            (HasNoDraftAnswer self.old self.new look) }
+    {
+        let (from, to) = frames_for(look);
+        let reached = self.state_for(from, to);
+        answer_reached(alloc, self.movie(), look, reached)
+    }
+
+    /// A `movie` line.
+    fn answer_movie(&mut self, alloc: A) -> Result<Vec<u8, A>, RunFault>
+        ensures { MatchResult result
+            (λ bytes. IsDraftAnswered self.old MovieLine bytes.items self.new)
+            (HasNoDraftAnswer self.old self.new MovieLine) }
+    {
+        let bytes = movie_answer(alloc, self.edits(), self.movie());
+        answer_or_refusal(alloc, bytes)
+    }
+
+    /// A `states` line.
+    fn answer_states(&mut self, alloc: A) -> Result<Vec<u8, A>, RunFault>
+        ensures { MatchResult result
+            (λ bytes. IsDraftAnswered self.old StatesLine bytes.items self.new)
+            (HasNoDraftAnswer self.old self.new StatesLine) }
+    {
+        let bytes = list_states(alloc, self.view(), self.edits());
+        answer_or_refusal(alloc, bytes)
     }
 
     /// A script's line. A draft keeps its cartridge, so it makes no `load`.
@@ -154,9 +243,9 @@ impl<A: Allocator + Copy> Draft<A> {
             Request::Retouch(retouch) => Ok(Some(self.answer_retouch(alloc, retouch)?)),
             Request::Picture { frame } => Ok(Some(self.answer_picture(alloc, frame)?)),
             Request::Pictures { from, to } => Ok(Some(self.answer_pictures(alloc, from, to)?)),
-            Request::Ram { frames } => Ok(Some(self.answer_ram(alloc, frames)?)),
-            Request::Digest { frame } => Ok(Some(self.answer_digest(alloc, frame)?)),
-            Request::Lag { from, to } => Ok(Some(self.answer_lag(alloc, from, to)?)),
+            Request::Ram { .. } | Request::Digest { .. } | Request::Lag { .. } => {
+                Ok(Some(self.answer_look(alloc, request)?))
+            }
             Request::Movie => Ok(Some(self.answer_movie(alloc)?)),
             Request::States => Ok(Some(self.answer_states(alloc)?)),
             Request::Share

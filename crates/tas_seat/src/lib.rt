@@ -16,7 +16,6 @@ mod conversation;
 mod door;
 mod draft;
 mod draft_answers;
-mod draft_looks;
 mod draft_stroke;
 mod edit_requests;
 mod histories;

@@ -1,43 +1,91 @@
-//! The lines `ram`, `digest` and `lag` of a conversation: looks at the machine after some frames, or in them.
+//! Looks, wherever they are answered: the lines `shot`, `picture`, `ram`, `digest` and `lag` of a conversation. A seat brings its view up to what is
+//! published, and a draft has its own; what a look is answered follows from what it found there.
 
-ghost use Rattle.std.specs.Prelude.{◌≡◌, ◌<◌, ◌≤◌, length, IfOk, MatchResult};
+ghost use Rattle.std.specs.Prelude.{◌≡◌, ◌<◌, ◌≤◌, length, Some, Ok, IfOk, MatchResult};
+ghost use Rattle.vcs_tia.specs.Image.{ppm_bytes};
+ghost use Rattle.vcs_tia.specs.Picture.{lit_count};
 ghost use Rattle.tas_green.specs.Run.{state_after};
-ghost use Rattle.tas_engines.specs.Lag.{lag_lines_between};
-ghost use Rattle.tas_language.specs.Answers.{lag_text};
-ghost use Rattle.tas_language.specs.declared.request.Request.TheVariants.{Ram as RamLine, Digest as DigestLine, Lag as LagLine};
-ghost use Rattle.tas_seat.specs.Outcomes.{IsDigest, HasAnswer, HasNoAnswer};
+ghost use Rattle.tas_published.specs.Errors.{shot_error};
+ghost use Rattle.tas_language.specs.Answers.{picture_text};
+ghost use Rattle.tas_language.specs.declared.reply.Reply.TheVariants.{Drawn as DrawnReply};
+ghost use Rattle.tas_language.specs.declared.request.Request.TheVariants.{Digest as DigestLine, Lag as LagLine};
+ghost use Rattle.tas_seat.specs.Turns.{standing_at};
+ghost use Rattle.tas_seat.specs.Requests.{look_text};
+ghost use Rattle.tas_seat.specs.Outcomes.{unshown_as};
+ghost use Rattle.tas_seat.specs.Inside.Looking.{CanLook, AsksForState, IsStateLook, HasText, HasReport};
 
-use crate::commands::halted_reply;
+use crate::commands::{halted_reply, unshown_as};
 use crate::requests::{answer_or_refusal, unshown_answer};
 use std::alloc::{AllocError, Allocator};
-use tas_desk::{CloseOnDrop, Desk, Name, Seat};
+use tas_desk::{Reached, Shot, ShotError, StateError};
 use tas_engines::{RunFault, lag_between};
-use tas_language::{digest_answer, lag_answer, ram_answer, reply_line};
+use tas_language::{
+    Reply, Request, digest_answer, lag_answer, picture_answer, ram_answer, reply_line,
+};
 use tas_movie::Movie;
 use vcs_machine::{Meter, State, play};
 use vcs_tia::Picture;
 
-/// A `ram` line.
-pub fn answer_ram<N: Name, W: CloseOnDrop, A: Allocator + Copy>(
-    alloc: A,
-    desk: &Desk<N, W, A>,
-    seat: &mut Seat<N, A>,
-    frames: usize,
-) -> Result<Vec<u8, A>, RunFault>
-    ensures { MatchResult result
-        (λ bytes. HasAnswer A seat.old seat.new (RamLine frames) bytes.items)
-        (HasNoAnswer seat.old seat.new (RamLine frames)) }
+/// The reply to a `shot` line, by what was drawn.
+pub fn reply_to_shot<A: Allocator>(drawn: Result<Shot<A>, ShotError>) -> Result<Reply, RunFault>
+    ensures { MatchResult drawn
+        (λ shot. result ≡ Ok (DrawnReply shot.at shot.frame shot.ran (lit_count shot.picture)))
+        (λ error. result ≡ unshown_as error) }
 {
-    let reached = match desk.state_for(seat, frames, frames) {
-        Ok(reached) => reached,
-        Err(error) => return unshown_answer(alloc, error.into()),
+    let shot = match drawn {
+        Ok(shot) => shot,
+        Err(error) => return unshown_as(error),
     };
-    let bytes = ram_answer(alloc, reached.at, frames, &reached.state.ram());
+    let lit = shot.picture.lit();
+    Ok(Reply::Drawn {
+        at: shot.at,
+        frame: shot.frame,
+        ran: shot.ran,
+        lit,
+    })
+}
+
+/// A `picture` line, answered by what was drawn.
+pub fn answer_drawn<A: Allocator + Copy>(
+    alloc: A,
+    frame: usize,
+    drawn: Result<Shot<A>, ShotError>,
+) -> Result<Vec<u8, A>, RunFault>
+    ensures { MatchResult drawn
+        (λ shot. HasText result (λ bytes. bytes.items)
+        (Some (picture_text shot.at frame (ppm_bytes shot.picture))))
+        (λ error. HasReport result (λ bytes. bytes.items) error) }
+{
+    let shot = match drawn {
+        Ok(shot) => shot,
+        Err(error) => return unshown_answer(alloc, error),
+    };
+    let bytes = picture_answer(alloc, shot.at, frame, &shot.picture);
     answer_or_refusal(alloc, bytes)
 }
 
+/// The frames that `digest` asks for: one. After the greatest number comes 0: then it is past the last one, and no movie has such frames.
+fn one_frame(frame: usize) -> (usize, usize)
+    ensures { AsksForState (DigestLine frame) result.0 result.1 }
+{
+    (frame, frame.wrapping_add(1))
+}
+
+/// The frames that a look at a state asks for, from the one which begins in this state up to the one before another.
+pub fn frames_for(look: Request) -> (usize, usize)
+    requires { IsStateLook look }
+    ensures { AsksForState look result.0 result.1 }
+{
+    match look {
+        Request::Ram { frames } => (frames, frames),
+        Request::Digest { frame } => one_frame(frame),
+        Request::Lag { from, to } => (from, to),
+        _ => (0, 0),
+    }
+}
+
 /// Plays a frame from the state in which it begins, and answers `digest` with its digests, or with its halt.
-pub fn digest_frame<A: Allocator + Copy, B: Allocator>(
+fn digest_frame<A: Allocator + Copy, B: Allocator>(
     alloc: A,
     at: u64,
     movie: &Movie<B>,
@@ -46,7 +94,8 @@ pub fn digest_frame<A: Allocator + Copy, B: Allocator>(
 ) -> Result<Vec<u8, A>, AllocError>
     requires within { frame < length movie.now.inputs }
     requires begin { begin ≡ state_after movie.now frame }
-    ensures { IfOk result (λ bytes. IsDigest at movie.now frame bytes.items) }
+    ensures { IfOk result
+        (λ bytes. look_text (standing_at movie.now at) (DigestLine frame) ≡ Some bytes.items) }
 {
     let mut picture = Picture::blank(alloc)?;
     let mut state = begin;
@@ -63,28 +112,8 @@ pub fn digest_frame<A: Allocator + Copy, B: Allocator>(
     digest_answer(alloc, at, frame, &state.ram(), &picture)
 }
 
-/// A `digest` line.
-pub fn answer_digest<N: Name, W: CloseOnDrop, A: Allocator + Copy>(
-    alloc: A,
-    desk: &Desk<N, W, A>,
-    seat: &mut Seat<N, A>,
-    frame: usize,
-) -> Result<Vec<u8, A>, RunFault>
-    ensures { MatchResult result
-        (λ bytes. HasAnswer A seat.old seat.new (DigestLine frame) bytes.items)
-        (HasNoAnswer seat.old seat.new (DigestLine frame)) }
-{
-    // After the greatest number comes 0: then the first frame is past the last one, and no movie has such frames.
-    let reached = match desk.state_for(seat, frame, frame.wrapping_add(1)) {
-        Ok(reached) => reached,
-        Err(error) => return unshown_answer(alloc, error.into()),
-    };
-    let bytes = digest_frame(alloc, reached.at, seat.zone_movie(), frame, reached.state);
-    answer_or_refusal(alloc, bytes)
-}
-
 /// Plays some frames from the state in which the first one begins, and answers `lag` with the lag frames among them.
-pub fn find_lag<A: Allocator + Copy, B: Allocator>(
+fn find_lag<A: Allocator + Copy, B: Allocator>(
     alloc: A,
     at: u64,
     movie: &Movie<B>,
@@ -96,35 +125,48 @@ pub fn find_lag<A: Allocator + Copy, B: Allocator>(
     requires within { to ≤ length movie.now.inputs }
     requires begin { begin ≡ state_after movie.now from }
     ensures { IfOk result
-        (λ bytes. bytes.items ≡ lag_text at from to (lag_lines_between movie.now from to)) }
+        (λ bytes. look_text (standing_at movie.now at) (LagLine from to) ≡ Some bytes.items) }
 {
     let lines = lag_between(alloc, movie, from, to, begin)?;
     lag_answer(alloc, at, from, to, lines.as_slice())
 }
 
-/// A `lag` line.
-pub fn answer_lag<N: Name, W: CloseOnDrop, A: Allocator + Copy>(
+/// What a look at a state finds from there.
+fn find<A: Allocator + Copy, B: Allocator>(
     alloc: A,
-    desk: &Desk<N, W, A>,
-    seat: &mut Seat<N, A>,
-    from: usize,
-    to: usize,
-) -> Result<Vec<u8, A>, RunFault>
-    ensures { MatchResult result
-        (λ bytes. HasAnswer A seat.old seat.new (LagLine from to) bytes.items)
-        (HasNoAnswer seat.old seat.new (LagLine from to)) }
+    at: u64,
+    movie: &Movie<B>,
+    look: Request,
+    begin: State,
+) -> Result<Vec<u8, A>, AllocError>
+    requires { CanLook look movie.now begin }
+    ensures { IfOk result (λ bytes. look_text (standing_at movie.now at) look ≡ Some bytes.items) }
 {
-    let reached = match desk.state_for(seat, from, to) {
-        Ok(reached) => reached,
+    match look {
+        Request::Ram { frames } => ram_answer(alloc, at, frames, &begin.ram()),
+        Request::Digest { frame } => digest_frame(alloc, at, movie, frame, begin),
+        Request::Lag { from, to } => find_lag(alloc, at, movie, from, to, begin),
+        _ => Ok(Vec::new(alloc)),
+    }
+}
+
+/// A look at a state, answered by the state that was reached, in this movie.
+pub fn answer_reached<A: Allocator + Copy, B: Allocator>(
+    alloc: A,
+    movie: &Movie<B>,
+    look: Request,
+    reached: Result<Reached, StateError>,
+) -> Result<Vec<u8, A>, RunFault>
+    requires { IfOk reached (λ found. CanLook look movie.now found.state) }
+    ensures { MatchResult reached
+        (λ found. HasText result (λ bytes. bytes.items)
+        (look_text (standing_at movie.now found.at) look))
+        (λ error. HasReport result (λ bytes. bytes.items) (shot_error error)) }
+{
+    let found = match reached {
+        Ok(found) => found,
         Err(error) => return unshown_answer(alloc, error.into()),
     };
-    let bytes = find_lag(
-        alloc,
-        reached.at,
-        seat.zone_movie(),
-        from,
-        to,
-        reached.state,
-    );
+    let bytes = find(alloc, found.at, movie, look, found.state);
     answer_or_refusal(alloc, bytes)
 }

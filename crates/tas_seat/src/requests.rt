@@ -14,20 +14,21 @@ ghost use Rattle.tas_language.specs.Answers.{states_text};
 ghost use Rattle.tas_language.specs.Replies.{reply_text};
 ghost use Rattle.tas_language.specs.declared.request.Request.TheVariants.{Do as ScriptLine, Retouch as RetouchLine, Picture as PictureLine, Pictures as PicturesLine, Movie as MovieLine, States as StatesLine, Share as ShareLine};
 ghost use Rattle.tas_seat.specs.Requests.{kept_frames};
-ghost use Rattle.tas_seat.specs.Outcomes.{unshown_as, HasAnswer, HasNoAnswer, IsAboutTalk, IsLook};
+ghost use Rattle.tas_seat.specs.Subjects.{IsAboutTalk};
+ghost use Rattle.tas_seat.specs.Outcomes.{unshown_as, HasAnswer, HasNoAnswer, IsLook};
+ghost use Rattle.tas_seat.specs.Inside.Looking.{IsStateLook};
 
 use crate::commands::{reply_to_command, unshown_as};
 use crate::edit_requests::{EditRequest, make_edit};
 use crate::histories::answer_history;
-use crate::looks::{answer_digest, answer_lag, answer_ram};
+use crate::looks::{answer_drawn, answer_reached, frames_for};
 use std::alloc::{AllocError, Allocator};
 use std::sync::Wait;
 use tas_desk::{CloseOnDrop, Desk, Name, Seat, ShotError};
 use tas_engines::RunFault;
 use tas_green::{View, stride};
 use tas_language::{
-    Command, Reply, Request, Retouch, movie_answer, picture_answer, reply_line, share_answer,
-    states_answer,
+    Command, Reply, Request, Retouch, movie_answer, reply_line, share_answer, states_answer,
 };
 
 /// A reply as an answer.
@@ -109,12 +110,8 @@ fn answer_picture<N: Name, W: CloseOnDrop, A: Allocator + Copy>(
         (λ bytes. HasAnswer A seat.old seat.new (PictureLine frame) bytes.items)
         (HasNoAnswer seat.old seat.new (PictureLine frame)) }
 {
-    let shot = match desk.picture(alloc, seat, frame) {
-        Ok(shot) => shot,
-        Err(error) => return unshown_answer(alloc, error),
-    };
-    let bytes = picture_answer(alloc, shot.at, frame, &shot.picture);
-    answer_or_refusal(alloc, bytes)
+    let drawn = desk.picture(alloc, seat, frame);
+    answer_drawn(alloc, frame, drawn)
 }
 
 /// A `pictures` line: the answers that `picture` gives to the frames from one to the one before another, one after the other.
@@ -135,6 +132,22 @@ fn answer_pictures<N: Name, W: CloseOnDrop, A: Allocator + Copy>(
         bytes.extend_from_slice(shown.as_slice())?;
     }
     Ok(bytes)
+}
+
+/// A `ram`, `digest` or `lag` line, from the seat's zone and its window.
+fn answer_look<N: Name, W: CloseOnDrop, A: Allocator + Copy>(
+    alloc: A,
+    desk: &Desk<N, W, A>,
+    seat: &mut Seat<N, A>,
+    look: Request,
+) -> Result<Vec<u8, A>, RunFault>
+    requires { IsStateLook look }
+    ensures { MatchResult result (λ bytes. HasAnswer A seat.old seat.new look bytes.items)
+        (HasNoAnswer seat.old seat.new look) }
+{
+    let (from, to) = frames_for(look);
+    let reached = desk.state_for(seat, from, to);
+    answer_reached(alloc, seat.zone_movie(), look, reached)
 }
 
 /// A `movie` line.
@@ -304,9 +317,9 @@ pub fn answer_request<N: Name, W: CloseOnDrop, A: Allocator + Copy, R: Wait>(
         Request::Retouch(retouch) => Ok(Some(answer_retouch(rt, alloc, desk, seat, retouch)?)),
         Request::Picture { frame } => Ok(Some(answer_picture(alloc, desk, seat, frame)?)),
         Request::Pictures { from, to } => Ok(Some(answer_pictures(alloc, desk, seat, from, to)?)),
-        Request::Ram { frames } => Ok(Some(answer_ram(alloc, desk, seat, frames)?)),
-        Request::Digest { frame } => Ok(Some(answer_digest(alloc, desk, seat, frame)?)),
-        Request::Lag { from, to } => Ok(Some(answer_lag(alloc, desk, seat, from, to)?)),
+        Request::Ram { .. } | Request::Digest { .. } | Request::Lag { .. } => {
+            Ok(Some(answer_look(alloc, desk, seat, request)?))
+        }
         Request::Movie => Ok(Some(answer_movie(rt, alloc, desk, seat)?)),
         Request::States => Ok(Some(answer_states(rt, alloc, desk, seat)?)),
         Request::Share => Ok(Some(answer_share(rt, alloc, desk, seat)?)),

@@ -6,6 +6,8 @@ mod checks;
 #[cfg(test)]
 mod draft_tests;
 #[cfg(test)]
+mod long_look_tests;
+#[cfg(test)]
 mod talk_turn_tests;
 #[cfg(test)]
 mod turn_tests;

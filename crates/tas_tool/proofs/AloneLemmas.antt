@@ -39,16 +39,19 @@ use Rattle.tas_language.specs.declared.request.Request.{Request}
 use Rattle.tas_language.specs.declared.request.Request.TheVariants.{Do, Retouch, Picture, Pictures, Ram, Digest, Lag, Movie, States, Share, History, Begin, Commit, Drop, Quit}
 use Rattle.tas_seat.specs.HistoryText.{entry_lines, history_reply_text}
 use Rattle.tas_seat.specs.Edits.{edits_by_command, requested_edits, made_between}
-use Rattle.tas_seat.specs.Requests.{TalkState, IsAnswerTo as IsAnswerAt}
-use Rattle.tas_seat.specs.Seats.{most_entries, talk_state_at, IsSeatAfter, IsAnsweredAt, StripAnswer as SeatAnswer, AreStrip as AreSeatStrip, strip_answers as seat_answers, entries_from, IsHistoryAnswered, IsRequestAnswered}
+use Rattle.tas_seat.specs.Requests.{TalkState, IsPictureAnswer, StripAnswer, AreShown, strip_answers, IsAnswerTo as IsAnswerAt}
+use Rattle.tas_seat.specs.Seats.{most_entries, talk_state_at, IsSeatAfter, IsPictureAt, IsAnsweredAt, entries_from, IsHistoryAnswered, IsRequestAnswered}
+use Rattle.tas_seat.specs.declared.conversation.Subject.{Subject}
+use Rattle.tas_seat.specs.declared.conversation.Subject.TheVariants as about
+use Rattle.tas_seat.specs.Subjects.{subject_of}
 use Rattle.tas_seat.specs.Drafts.{DraftContent, inner_inputs, stroke_of, IsStroke, LeadsTo, HasStroke}
-use Rattle.tas_seat.specs.Conversations.{TalkingSeat, talking, text_of, uncommitted_answer, commit_answer, committed_edits, draft_after_commit, IsBeginAnswer, IsCommitAnswer, IsCommitted, IsAnsweredOutside, IsAnsweredInside, IsTalkAnswered, IsLineAnswered}
+use Rattle.tas_seat.specs.Conversations.{TalkingSeat, talking, text_of, uncommitted_answer, commit_answer, committed_edits, draft_after_commit, IsBeginAnswer, IsCommitAnswer, IsCommitted, IsAnsweredOutsideOf, IsAnsweredInsideOf, IsTalkAnswered, IsLineAnswered}
 use Rattle.tas_published.specs.Strokes.{edited_by, refusal_in}
 use Rattle.tas_seat.specs.Turns.{Standing, standing_of, refusal_reply}
 use Rattle.tas_seat.proofs.CommitLemmas.{made_after, made_by_entries}
 use Rattle.tas_seat.specs.Talk.{Exchange as SeatExchange, IsExchange as IsSeatExchange, AreExchanges as AreSeatExchanges, TalkEnds as SeatEnds, HasLooked, IsCarriedOut as IsSeatCarriedOut, IsTalk as IsSeatTalk, lines_of as seat_lines, answers_of as seat_texts, edits_of}
 use Rattle.tas_seat.proofs.HistoryLemmas.{Leaves, prefix_length, by_length, by_rest, front_length, leaves_after, strip_leaves, exchange_leaves, exchanges_leave, rested, Rested}
-use Rattle.tas_tool.specs.Talk.{StripAnswer, AreStrip, strip_answers, own_entries, IsOwnHistory, IsAnswerTo, edits_between, DraftedState, drafted, IsOwnCommit, IsOutsideAnswer, IsInsideAnswer, IsDraftedAnswer, IsLineAnswer, Exchange, IsExchange, AreExchanges, TalkEnds, IsCarriedOut, LeavesMovie, IsTalkLeaving, lines_of, answers_of}
+use Rattle.tas_tool.specs.Talk.{own_entries, IsOwnHistory, IsAnswerTo, edits_between, DraftedState, drafted, IsOwnCommit, IsOutsideAnswerOf, IsInsideAnswerOf, IsDraftedAnswer, IsLineAnswer, Exchange, IsExchange, AreExchanges, TalkEnds, IsCarriedOut, LeavesMovie, IsTalkLeaving, lines_of, answers_of}
 use Rattle.tas_tool.specs.Inside.Alone.{SeesOwn}
 
 -- what the seat has seen comes to, and its greenzone
@@ -73,7 +76,7 @@ alone_before {A} n xs ys p alone =
     omega (arith, few, rest, alone, prefix_length xs ys p, by_rest n xs ys p, by_length n xs, by_length n ys, by_length n p.0)
 
 -- where all entries are a seat's, the first one is, and so are those after it
-first_alone : {A : Type 0} (n : ℕ) (entry : Entry A) (entries : List (Entry A)) → entries_of n (entry ∷ entries) ≡ length (entry ∷ entries) → (entry.seat ≡ n) × (entries_of n entries ≡ length entries)
+pub first_alone : {A : Type 0} (n : ℕ) (entry : Entry A) (entries : List (Entry A)) → entries_of n (entry ∷ entries) ≡ length (entry ∷ entries) → (entry.seat ≡ n) × (entries_of n entries ≡ length entries)
 first_alone {A} n entry entries alone = go (entry.seat == n) refl
   where
     one : entries_of n (entry ∷ entries) ≡ (if entry.seat == n then 1 else 0) + entries_of n entries
@@ -111,7 +114,7 @@ at_front {A} seat next at edits is seen own =
 
 -- ---- edits, whatever allocator they are on
 
-abbrev edit_content : {A : Type 0} → Edit A → EditContent
+abbrev pub edit_content : {A : Type 0} → Edit A → EditContent
 edit_content (Load cart) = Load cart
 edit_content (Insert at inputs) = Insert at inputs
 edit_content (Replace at inputs) = Replace at inputs
@@ -228,22 +231,24 @@ same_command A (command.InputAt k) = refl
 same_command A (command.Shot k) = refl
 same_command A (command.Work k) = refl
 
-same_requested : (A : Type 0) (movie : MovieContent) (request : Request) → contents (requested_edits A movie request) ≡ requested_edits (Unit {0}) movie request
-same_requested A movie (Do command) = same_command A command
-same_requested A movie (Retouch retouch) = ap (λ (e : EditContent). e ∷ []) (same_retouch A movie.inputs retouch)
-same_requested A movie (Picture k) = refl
-same_requested A movie (Pictures from to) = refl
-same_requested A movie (Ram k) = refl
-same_requested A movie (Digest k) = refl
-same_requested A movie (Lag a b) = refl
-same_requested A movie Movie = refl
-same_requested A movie States = refl
-same_requested A movie Share = refl
-same_requested A movie (History from) = refl
-same_requested A movie Begin = refl
-same_requested A movie Commit = refl
-same_requested A movie Drop = refl
-same_requested A movie Quit = refl
+-- those that a request asks for; one about the desk asks for none
+same_requested : (A : Type 0) (movie : MovieContent) (request : Request)
+    → (contents (requested_edits A movie request) ≡ requested_edits (Unit {0}) movie request) × (subject_of request ≡ about.Desk → requested_edits (Unit {0}) movie request ≡ [])
+same_requested A movie (Do command) = (same_command A command, λ is. absurd (cc is))
+same_requested A movie (Retouch retouch) = (ap (λ (e : EditContent). e ∷ []) (same_retouch A movie.inputs retouch), λ is. absurd (cc is))
+same_requested A movie (Picture k) = (refl, λ is. refl)
+same_requested A movie (Pictures from to) = (refl, λ is. refl)
+same_requested A movie (Ram k) = (refl, λ is. refl)
+same_requested A movie (Digest k) = (refl, λ is. refl)
+same_requested A movie (Lag a b) = (refl, λ is. refl)
+same_requested A movie Movie = (refl, λ is. refl)
+same_requested A movie States = (refl, λ is. refl)
+same_requested A movie Share = (refl, λ is. refl)
+same_requested A movie (History from) = (refl, λ is. refl)
+same_requested A movie Begin = (refl, λ is. refl)
+same_requested A movie Commit = (refl, λ is. refl)
+same_requested A movie Drop = (refl, λ is. refl)
+same_requested A movie Quit = (refl, λ is. refl)
 
 same_between : {A : Type 0} (old new : Standing) (edits : List (Edit A)) → contents (made_between old new edits) ≡ made_between old new (contents edits)
 same_between {A} old new edits = go (new.made == old.made)
@@ -279,22 +284,22 @@ own_answer : (A : Type 0) (before now : SeatContent A) (request : Request) (answ
 own_answer A before now request answer edits is seen own =
     subst (λ (h : List (Entry A)). IsAnswerAt (talk_state_at h before.zone) request answer (state_of now)) (at_front before now is.at edits is.seat seen own) is.answered
 
-own_shown : {A : Type 0} → List (SeatAnswer A) → List StripAnswer
+own_shown : {A : Type 0} → List (StripAnswer (SeatContent A)) → List (StripAnswer TalkState)
 own_shown [] = []
 own_shown (shown ∷ strip) = record { answer = shown.answer; next = state_of shown.next } ∷ own_shown strip
 
-shown_length : {A : Type 0} (strip : List (SeatAnswer A)) → length (own_shown strip) ≡ length strip
+shown_length : {A : Type 0} (strip : List (StripAnswer (SeatContent A))) → length (own_shown strip) ≡ length strip
 unfolding own_shown
 shown_length [] = refl
 shown_length (shown ∷ strip) = omega (arith, shown_length strip)
 
-shown_answers : {A : Type 0} (strip : List (SeatAnswer A)) → strip_answers (own_shown strip) ≡ seat_answers strip
+shown_answers : {A : Type 0} (strip : List (StripAnswer (SeatContent A))) → strip_answers (own_shown strip) ≡ strip_answers strip
 unfolding own_shown
 shown_answers [] = refl
 shown_answers (shown ∷ strip) = ap (λ (l : List ℕ). shown.answer ++ l) (shown_answers strip)
 
-own_strip : (A : Type 0) (seat last : SeatContent A) (from : ℕ) (strip : List (SeatAnswer A)) → AreSeatStrip seat from strip last → seat.made ≤ length seat.front → SeesOwn last → AreStrip (state_of seat) from (own_shown strip) (state_of last)
-unfolding AreSeatStrip AreStrip own_shown
+own_strip : (A : Type 0) (seat last : SeatContent A) (from : ℕ) (strip : List (StripAnswer (SeatContent A))) → AreShown (IsPictureAt {A = A}) seat from strip last → seat.made ≤ length seat.front → SeesOwn last → AreShown IsPictureAnswer (state_of seat) from (own_shown strip) (state_of last)
+unfolding AreShown own_shown
 own_strip A seat last from [] is seen own = ap (λ (s : SeatContent A). state_of s) is
 own_strip A seat last from (shown ∷ strip) is seen own =
     let next : SeesOwn shown.next = sees_before shown.next last [] (strip_leaves shown.next last (from + 1) strip is.1) own in (
@@ -302,7 +307,7 @@ own_strip A seat last from (shown ∷ strip) is seen own =
       own_strip A shown.next last (from + 1) strip is.1 (seen_after seat shown.next [] (leaves_after seat shown.next is.0.at [] is.0.seat) seen) own,
     )
 
-strip_front : {A : Type 0} (seat last : SeatContent A) (from : ℕ) (strip : List (SeatAnswer A)) → AreSeatStrip seat from strip last → seat.made ≤ length seat.front → SeesOwn last → last.front ≡ seat.front
+strip_front : {A : Type 0} (seat last : SeatContent A) (from : ℕ) (strip : List (StripAnswer (SeatContent A))) → AreShown (IsPictureAt {A = A}) seat from strip last → seat.made ≤ length seat.front → SeesOwn last → last.front ≡ seat.front
 strip_front {A} seat last from strip are seen own =
     let left : Leaves seat last [] = strip_leaves seat last from strip are in
     let none : left.seen.0 ≡ [] = none_left left.seen.0 (omega (arith, left.made, seen, own.few, prefix_length seat.front last.front left.seen)) in
@@ -329,25 +334,6 @@ own_history A before now from answer is seen own =
       rests = state_stays before now same is.zone;
     }
 
-own_request : (A : Type 0) (before now : SeatContent A) (request : Request) (answer : List ℕ) (edits : List (Edit A)) → IsRequestAnswered A before now request answer edits → before.made ≤ length before.front → SeesOwn now
-    → IsAnswerTo (state_of before) (edits_seen before.front) request answer (state_of now)
-own_request A before now (Pictures from to) answer edits (none, strip, long, are, told) seen own =
-    (own_shown strip, shown_length strip ∙ long, own_strip A before now from strip are seen own, told ∙ sym (shown_answers strip))
-own_request A before now (History from) answer edits (none, is) seen own = own_history A before now from answer is seen own
-own_request A before now (Do command) answer edits is seen own = own_answer A before now (Do command) answer edits is seen own
-own_request A before now (Retouch retouch) answer edits is seen own = own_answer A before now (Retouch retouch) answer edits is seen own
-own_request A before now (Picture k) answer edits is seen own = own_answer A before now (Picture k) answer edits is seen own
-own_request A before now (Ram k) answer edits is seen own = own_answer A before now (Ram k) answer edits is seen own
-own_request A before now (Digest k) answer edits is seen own = own_answer A before now (Digest k) answer edits is seen own
-own_request A before now (Lag a b) answer edits is seen own = own_answer A before now (Lag a b) answer edits is seen own
-own_request A before now Movie answer edits is seen own = own_answer A before now Movie answer edits is seen own
-own_request A before now States answer edits is seen own = own_answer A before now States answer edits is seen own
-own_request A before now Share answer edits is seen own = own_answer A before now Share answer edits is seen own
-own_request A before now Begin answer edits is seen own = own_answer A before now Begin answer edits is seen own
-own_request A before now Commit answer edits is seen own = own_answer A before now Commit answer edits is seen own
-own_request A before now Drop answer edits is seen own = own_answer A before now Drop answer edits is seen own
-own_request A before now Quit answer edits is seen own = own_answer A before now Quit answer edits is seen own
-
 -- the edits that the seat has seen then
 grown_at : (A : Type 0) (before now : SeatContent A) (request : Request) (answer : List ℕ) (edits : List (Edit A)) → IsAnsweredAt A before now request answer edits → before.made ≤ length before.front → SeesOwn now
     → edits_seen now.front ≡ edits_seen before.front ++ edits_between (state_of before) (state_of now) request
@@ -357,7 +343,7 @@ grown_at A before now request answer edits is seen own =
     ∙ ap (λ (l : List EditContent). edits_seen before.front ++ l)
     (ap (λ (l : List (Edit A)). contents l) is.made
     ∙ same_between (standing_of is.at) new (requested_edits A (movie_of is.at) request)
-    ∙ ap (λ (l : List EditContent). made_between (standing_of is.at) new l) (same_requested A (movie_of is.at) request)
+    ∙ ap (λ (l : List EditContent). made_between (standing_of is.at) new l) (same_requested A (movie_of is.at) request).0
     ∙ ap (λ (h : List (Entry A)). made_between (standing_of h) new (requested_edits (Unit {0}) (movie_of h) request)) (at_front before now is.at edits is.seat seen own))
 
 -- a line that makes none leaves them
@@ -367,23 +353,25 @@ none_grown {A} before now same =
     ∙ sym (append-nil (edits_seen before.front))
     ∙ ap (λ (l : List EditContent). edits_seen before.front ++ l) (sym (none_between (standing_of before.front) (standing_of now.front)))
 
-own_edits : (A : Type 0) (before now : SeatContent A) (request : Request) (answer : List ℕ) (edits : List (Edit A)) → IsRequestAnswered A before now request answer edits → before.made ≤ length before.front → SeesOwn now
-    → edits_seen now.front ≡ edits_seen before.front ++ edits_between (state_of before) (state_of now) request
-own_edits A before now (Pictures from to) answer edits (none, strip, long, are, told) seen own = none_grown before now (strip_front before now from strip are seen own)
-own_edits A before now (History from) answer edits (none, is) seen own = none_grown before now (at_front before now now.front [] is.seat seen own)
-own_edits A before now (Do command) answer edits is seen own = grown_at A before now (Do command) answer edits is seen own
-own_edits A before now (Retouch retouch) answer edits is seen own = grown_at A before now (Retouch retouch) answer edits is seen own
-own_edits A before now (Picture k) answer edits is seen own = grown_at A before now (Picture k) answer edits is seen own
-own_edits A before now (Ram k) answer edits is seen own = grown_at A before now (Ram k) answer edits is seen own
-own_edits A before now (Digest k) answer edits is seen own = grown_at A before now (Digest k) answer edits is seen own
-own_edits A before now (Lag a b) answer edits is seen own = grown_at A before now (Lag a b) answer edits is seen own
-own_edits A before now Movie answer edits is seen own = grown_at A before now Movie answer edits is seen own
-own_edits A before now States answer edits is seen own = grown_at A before now States answer edits is seen own
-own_edits A before now Share answer edits is seen own = grown_at A before now Share answer edits is seen own
-own_edits A before now Begin answer edits is seen own = grown_at A before now Begin answer edits is seen own
-own_edits A before now Commit answer edits is seen own = grown_at A before now Commit answer edits is seen own
-own_edits A before now Drop answer edits is seen own = grown_at A before now Drop answer edits is seen own
-own_edits A before now Quit answer edits is seen own = grown_at A before now Quit answer edits is seen own
+-- a request is answered as nobody else's edits stood between the seat's own, which are those that it has seen
+own_request : (A : Type 0) (before now : SeatContent A) (request : Request) (answer : List ℕ) (edits : List (Edit A)) → IsRequestAnswered A before now request answer edits → before.made ≤ length before.front → SeesOwn now
+    → IsAnswerTo (state_of before) (edits_seen before.front) request answer (state_of now) × (edits_seen now.front ≡ edits_seen before.front ++ edits_between (state_of before) (state_of now) request)
+own_request A before now (Pictures from to) answer edits (none, (strip, long, are, told)) seen own =
+    ((own_shown strip, shown_length strip ∙ long, own_strip A before now from strip are seen own, told ∙ sym (shown_answers strip)), none_grown before now (strip_front before now from strip are seen own))
+own_request A before now (History from) answer edits (none, is) seen own = (own_history A before now from answer is seen own, none_grown before now (at_front before now now.front [] is.seat seen own))
+own_request A before now (Do command) answer edits is seen own = (own_answer A before now (Do command) answer edits is seen own, grown_at A before now (Do command) answer edits is seen own)
+own_request A before now (Retouch retouch) answer edits is seen own = (own_answer A before now (Retouch retouch) answer edits is seen own, grown_at A before now (Retouch retouch) answer edits is seen own)
+own_request A before now (Picture k) answer edits is seen own = (own_answer A before now (Picture k) answer edits is seen own, grown_at A before now (Picture k) answer edits is seen own)
+own_request A before now (Ram k) answer edits is seen own = (own_answer A before now (Ram k) answer edits is seen own, grown_at A before now (Ram k) answer edits is seen own)
+own_request A before now (Digest k) answer edits is seen own = (own_answer A before now (Digest k) answer edits is seen own, grown_at A before now (Digest k) answer edits is seen own)
+own_request A before now (Lag a b) answer edits is seen own = (own_answer A before now (Lag a b) answer edits is seen own, grown_at A before now (Lag a b) answer edits is seen own)
+own_request A before now Movie answer edits is seen own = (own_answer A before now Movie answer edits is seen own, grown_at A before now Movie answer edits is seen own)
+own_request A before now States answer edits is seen own = (own_answer A before now States answer edits is seen own, grown_at A before now States answer edits is seen own)
+own_request A before now Share answer edits is seen own = (own_answer A before now Share answer edits is seen own, grown_at A before now Share answer edits is seen own)
+own_request A before now Begin answer edits is seen own = (own_answer A before now Begin answer edits is seen own, grown_at A before now Begin answer edits is seen own)
+own_request A before now Commit answer edits is seen own = (own_answer A before now Commit answer edits is seen own, grown_at A before now Commit answer edits is seen own)
+own_request A before now Drop answer edits is seen own = (own_answer A before now Drop answer edits is seen own, grown_at A before now Drop answer edits is seen own)
+own_request A before now Quit answer edits is seen own = (own_answer A before now Quit answer edits is seen own, grown_at A before now Quit answer edits is seen own)
 
 -- a line that asks for no edit leaves them
 own_kept : (A : Type 0) (before now : SeatContent A) (request : Request) (answer : List ℕ) (edits : List (Edit A)) → IsRequestAnswered A before now request answer edits → requested_edits (Unit {0}) (movie_of before.front) request ≡ []
@@ -391,14 +379,14 @@ own_kept : (A : Type 0) (before now : SeatContent A) (request : Request) (answer
 own_kept A before now request answer edits is none seen own =
     let old : Standing = standing_of before.front in
     let new : Standing = standing_of now.front in
-    own_edits A before now request answer edits is seen own
+    (own_request A before now request answer edits is seen own).1
     ∙ ap (λ (l : List EditContent). edits_seen before.front ++ made_between old new l) none
     ∙ ap (λ (l : List EditContent). edits_seen before.front ++ l) (none_between old new)
     ∙ append-nil (edits_seen before.front)
 
 -- ---- drafts
 
-abbrev own_place : {A : Type 0} → TalkingSeat A → DraftedState
+abbrev pub own_place : {A : Type 0} → TalkingSeat A → DraftedState
 own_place now = drafted (state_of now.seat) (edits_seen now.seat.front) now.draft
 
 place_is : {A : Type 0} (before : SeatContent A) (now : TalkingSeat A) (draft : Option DraftContent) → now.seat ≡ before → now.draft ≡ draft → own_place now ≡ drafted (state_of before) (edits_seen before.front) draft
@@ -500,49 +488,31 @@ own_commit A before draft now answer edits is seen own =
       rests = record { kept_for = ap (λ (z : ZoneContent A). z.movie) is.zone; states = ap (λ (z : ZoneContent A). z.states) is.zone };
     }
 
-own_outside : (A : Type 0) (before : SeatContent A) (now : TalkingSeat A) (request : Request) (answer : List ℕ) (edits : List (Edit A)) → IsAnsweredOutside A before now request answer edits → before.made ≤ length before.front → SeesOwn now.seat
-    → IsOutsideAnswer (state_of before) (edits_seen before.front) request answer (own_place now)
-own_outside A before now Begin answer edits (is, none) seen own =
+own_outside : (subject : Subject) (A : Type 0) (before : SeatContent A) (now : TalkingSeat A) (request : Request) (answer : List ℕ) (edits : List (Edit A)) → subject_of request ≡ subject → IsAnsweredOutsideOf subject A before now request answer edits
+    → before.made ≤ length before.front → SeesOwn now.seat → IsOutsideAnswerOf subject (state_of before) (edits_seen before.front) request answer (own_place now)
+own_outside about.Begin A before now request answer edits subject (is, none) seen own =
     let same : now.seat.front ≡ before.front = at_front before now.seat now.seat.front [] is.seat seen own in
     (subst (λ (h : List (Entry A)). IsBeginAnswer (talk_state_at h before.zone) answer (state_of now.seat) now.draft) same is.answered, ap (λ (h : List (Entry A)). edits_seen h) same)
-own_outside A before now Commit answer edits (told, opened, left) seen own = (told, place_is before now None left.same opened)
-own_outside A before now Drop answer edits (told, opened, left) seen own = (told, place_is before now None left.same opened)
-own_outside A before now (Do command) answer edits is seen own = (own_request A before now.seat (Do command) answer edits is.0 seen own, own_edits A before now.seat (Do command) answer edits is.0 seen own, is.1)
-own_outside A before now (Retouch retouch) answer edits is seen own = (own_request A before now.seat (Retouch retouch) answer edits is.0 seen own, own_edits A before now.seat (Retouch retouch) answer edits is.0 seen own, is.1)
-own_outside A before now (Picture k) answer edits is seen own = (own_request A before now.seat (Picture k) answer edits is.0 seen own, own_edits A before now.seat (Picture k) answer edits is.0 seen own, is.1)
-own_outside A before now (Pictures from to) answer edits is seen own = (own_request A before now.seat (Pictures from to) answer edits is.0 seen own, own_edits A before now.seat (Pictures from to) answer edits is.0 seen own, is.1)
-own_outside A before now (Ram k) answer edits is seen own = (own_request A before now.seat (Ram k) answer edits is.0 seen own, own_edits A before now.seat (Ram k) answer edits is.0 seen own, is.1)
-own_outside A before now (Digest k) answer edits is seen own = (own_request A before now.seat (Digest k) answer edits is.0 seen own, own_edits A before now.seat (Digest k) answer edits is.0 seen own, is.1)
-own_outside A before now (Lag a b) answer edits is seen own = (own_request A before now.seat (Lag a b) answer edits is.0 seen own, own_edits A before now.seat (Lag a b) answer edits is.0 seen own, is.1)
-own_outside A before now Movie answer edits is seen own = (own_request A before now.seat Movie answer edits is.0 seen own, own_edits A before now.seat Movie answer edits is.0 seen own, is.1)
-own_outside A before now States answer edits is seen own = (own_request A before now.seat States answer edits is.0 seen own, own_edits A before now.seat States answer edits is.0 seen own, is.1)
-own_outside A before now Share answer edits is seen own = (own_request A before now.seat Share answer edits is.0 seen own, own_edits A before now.seat Share answer edits is.0 seen own, is.1)
-own_outside A before now (History from) answer edits is seen own = (own_request A before now.seat (History from) answer edits is.0 seen own, own_edits A before now.seat (History from) answer edits is.0 seen own, is.1)
-own_outside A before now Quit answer edits is seen own = (own_request A before now.seat Quit answer edits is.0 seen own, own_edits A before now.seat Quit answer edits is.0 seen own, is.1)
+own_outside about.Commit A before now request answer edits subject (told, opened, left) seen own = (told, place_is before now None left.same opened)
+own_outside about.Drop A before now request answer edits subject (told, opened, left) seen own = (told, place_is before now None left.same opened)
+own_outside about.Desk A before now request answer edits subject is seen own = let own_is = own_request A before now.seat request answer edits is.0 seen own in (own_is.0, own_is.1, is.1)
+own_outside about.Movie A before now request answer edits subject is seen own = let own_is = own_request A before now.seat request answer edits is.0 seen own in (own_is.0, own_is.1, is.1)
+own_outside about.End A before now request answer edits subject is seen own = absurd is
 
-own_inside : (A : Type 0) (before : SeatContent A) (draft : DraftContent) (now : TalkingSeat A) (request : Request) (answer : List ℕ) (edits : List (Edit A)) → IsAnsweredInside A before draft now request answer edits → before.made ≤ length before.front
-    → SeesOwn now.seat → IsInsideAnswer (state_of before) (edits_seen before.front) draft request answer (own_place now)
-own_inside A before draft now Begin answer edits (told, opened, left) seen own = (told, place_is before now (Some draft) left.same opened)
-own_inside A before draft now Commit answer edits is seen own = own_commit A before draft now answer edits is seen own
-own_inside A before draft now Drop answer edits (told, opened, left) seen own = (told, place_is before now None left.same opened)
-own_inside A before draft now Share answer edits is seen own = (own_request A before now.seat Share answer edits is.0 seen own, own_kept A before now.seat Share answer edits is.0 refl seen own, is.1)
-own_inside A before draft now (History from) answer edits is seen own =
-    (own_request A before now.seat (History from) answer edits is.0 seen own, own_kept A before now.seat (History from) answer edits is.0 refl seen own, is.1)
-own_inside A before draft now (Do command) answer edits (next, told, sound, opened, left) seen own = (next, told, sound, place_is before now (Some next) left.same opened)
-own_inside A before draft now (Retouch retouch) answer edits (next, told, sound, opened, left) seen own = (next, told, sound, place_is before now (Some next) left.same opened)
-own_inside A before draft now (Picture k) answer edits (next, told, sound, opened, left) seen own = (next, told, sound, place_is before now (Some next) left.same opened)
-own_inside A before draft now (Pictures from to) answer edits (next, told, sound, opened, left) seen own = (next, told, sound, place_is before now (Some next) left.same opened)
-own_inside A before draft now (Ram k) answer edits (next, told, sound, opened, left) seen own = (next, told, sound, place_is before now (Some next) left.same opened)
-own_inside A before draft now (Digest k) answer edits (next, told, sound, opened, left) seen own = (next, told, sound, place_is before now (Some next) left.same opened)
-own_inside A before draft now (Lag a b) answer edits (next, told, sound, opened, left) seen own = (next, told, sound, place_is before now (Some next) left.same opened)
-own_inside A before draft now Movie answer edits (next, told, sound, opened, left) seen own = (next, told, sound, place_is before now (Some next) left.same opened)
-own_inside A before draft now States answer edits (next, told, sound, opened, left) seen own = (next, told, sound, place_is before now (Some next) left.same opened)
-own_inside A before draft now Quit answer edits (next, told, sound, opened, left) seen own = (next, told, sound, place_is before now (Some next) left.same opened)
+own_inside : (subject : Subject) (A : Type 0) (before : SeatContent A) (draft : DraftContent) (now : TalkingSeat A) (request : Request) (answer : List ℕ) (edits : List (Edit A)) → subject_of request ≡ subject → IsAnsweredInsideOf subject A before draft now request answer edits
+    → before.made ≤ length before.front → SeesOwn now.seat → IsInsideAnswerOf subject (state_of before) (edits_seen before.front) draft request answer (own_place now)
+own_inside about.Begin A before draft now request answer edits subject (told, opened, left) seen own = (told, place_is before now (Some draft) left.same opened)
+own_inside about.Commit A before draft now request answer edits subject is seen own = own_commit A before draft now answer edits is seen own
+own_inside about.Drop A before draft now request answer edits subject (told, opened, left) seen own = (told, place_is before now None left.same opened)
+own_inside about.Desk A before draft now request answer edits subject is seen own =
+    ((own_request A before now.seat request answer edits is.0 seen own).0, own_kept A before now.seat request answer edits is.0 ((same_requested A (movie_of before.front) request).1 subject) seen own, is.1)
+own_inside about.Movie A before draft now request answer edits subject (next, told, sound, opened, left) seen own = (next, told, sound, place_is before now (Some next) left.same opened)
+own_inside about.End A before draft now request answer edits subject is seen own = absurd is
 
 own_talk_line : (A : Type 0) (before : SeatContent A) (draft : Option DraftContent) (now : TalkingSeat A) (request : Request) (answer : List ℕ) (edits : List (Edit A)) → IsTalkAnswered A before draft now request answer edits → before.made ≤ length before.front
     → SeesOwn now.seat → IsDraftedAnswer (state_of before) (edits_seen before.front) draft request answer (own_place now)
-own_talk_line A before None now request answer edits is seen own = own_outside A before now request answer edits is seen own
-own_talk_line A before (Some draft) now request answer edits is seen own = own_inside A before draft now request answer edits is seen own
+own_talk_line A before None now request answer edits is seen own = own_outside (subject_of request) A before now request answer edits refl is seen own
+own_talk_line A before (Some draft) now request answer edits is seen own = own_inside (subject_of request) A before draft now request answer edits refl is seen own
 
 own_line : (A : Type 0) (before now : TalkingSeat A) (heard : Option Request) (answer : List ℕ) (edits : List (Edit A)) → IsLineAnswered A before now heard answer edits → before.seat.made ≤ length before.seat.front → SeesOwn now.seat
     → IsLineAnswer (own_place before) heard answer (own_place now)
@@ -551,22 +521,22 @@ own_line A before now None answer edits (told, none, same) seen own = (told, ap 
 
 -- ---- all lines
 
-abbrev own_exchange : {A : Type 0} → SeatExchange A → Exchange
+abbrev pub own_exchange : {A : Type 0} → SeatExchange A → Exchange
 own_exchange x = record { said = x.said; heard = x.heard; answer = x.answer; next = own_place x.next }
 
-own_is : {A : Type 0} (seat : TalkingSeat A) (x : SeatExchange A) → IsSeatExchange seat x → seat.seat.made ≤ length seat.seat.front → SeesOwn x.next.seat → IsExchange (own_place seat) (own_exchange x)
+pub own_is : {A : Type 0} (seat : TalkingSeat A) (x : SeatExchange A) → IsSeatExchange seat x → seat.seat.made ≤ length seat.seat.front → SeesOwn x.next.seat → IsExchange (own_place seat) (own_exchange x)
 own_is {A} seat x is seen own = record { whole = is.whole; heard = is.heard; answered = own_line A seat x.next x.heard x.answer x.edits is.answered seen own }
 
-own_all : {A : Type 0} → List (SeatExchange A) → List Exchange
+unfoldable pub own_all : {A : Type 0} → List (SeatExchange A) → List Exchange
 own_all [] = []
 own_all (x ∷ xs) = own_exchange x ∷ own_all xs
 
-all_lines : {A : Type 0} (xs : List (SeatExchange A)) → lines_of (own_all xs) ≡ seat_lines xs
+pub all_lines : {A : Type 0} (xs : List (SeatExchange A)) → lines_of (own_all xs) ≡ seat_lines xs
 unfolding own_all
 all_lines [] = refl
 all_lines (x ∷ xs) = ap (λ (l : List ℕ). line x.said ++ l) (all_lines xs)
 
-all_answers : {A : Type 0} (xs : List (SeatExchange A)) → answers_of (own_all xs) ≡ seat_texts xs
+pub all_answers : {A : Type 0} (xs : List (SeatExchange A)) → answers_of (own_all xs) ≡ seat_texts xs
 unfolding own_all
 all_answers [] = refl
 all_answers (x ∷ xs) = ap (λ (l : List ℕ). x.answer ++ l) (all_answers xs)
@@ -580,7 +550,7 @@ own_exchanges {A} start last (x ∷ xs) is seen own =
 
 -- ---- the end
 
-own_ends : {A : Type 0} (seat : TalkingSeat A) (last : SeatContent A) (rest told : List ℕ) (edits : List (Edit A)) (input output output' : Option (List ℕ)) (result : Result (Unit {0}) ToolFault) → SeatEnds seat last rest told edits input output output' result
+pub own_ends : {A : Type 0} (seat : TalkingSeat A) (last : SeatContent A) (rest told : List ℕ) (edits : List (Edit A)) (input output output' : Option (List ℕ)) (result : Result (Unit {0}) ToolFault) → SeatEnds seat last rest told edits input output output' result
     → (result ≡ Err (Run Foreign) → ⊥) → seat.seat.made ≤ length seat.seat.front → SeesOwn last → TalkEnds (own_place seat) rest told input output output' result
 own_ends seat last rest told edits input output output' (Ok u) is other seen own = is.1
 own_ends seat last rest told edits input output output' (Err (Read Failed)) is other seen own = (is.1, is.2)
@@ -608,7 +578,7 @@ own_ends seat last rest told edits input output output' (Err (Seat number fault)
 -- ---- the movie that is left
 
 -- a seat that made nothing more has seen nothing more
-same_front : {A : Type 0} (seat last : SeatContent A) (edits : List (Edit A)) → Leaves seat last edits → edits ≡ [] → seat.made ≤ length seat.front → SeesOwn last → last.front ≡ seat.front
+pub same_front : {A : Type 0} (seat last : SeatContent A) (edits : List (Edit A)) → Leaves seat last edits → edits ≡ [] → seat.made ≤ length seat.front → SeesOwn last → last.front ≡ seat.front
 same_front {A} seat last edits left none seen own =
     let count : length edits ≡ 0 = ap (λ (l : List (Edit A)). length l) none in
     let more : left.seen.0 ≡ [] = none_left left.seen.0 (omega (arith, left.made, count, own.few, seen, prefix_length seat.front last.front left.seen)) in

@@ -9,3 +9,4 @@ pub mod AloneLemmas
 pub mod TalkRunLemmas
 pub mod HoldingLemmas
 pub mod DeskLemmas
+pub mod NotedLemmas

@@ -30,7 +30,7 @@ holds_standing {A} seat movie holds own =
     ∙ ap (λ (n : ℕ). let x : Standing = record { movie = movie; made = n } in x) two
 
 -- the movie isn't made
-unmade_by : {A : Type 0} (seat : SeatContent A) (fault : RunFault) → IsMakingFault seat fault → length seat.front ≤ seat.made → IsUnmade fault
+pub unmade_by : {A : Type 0} (seat : SeatContent A) (fault : RunFault) → IsMakingFault seat fault → length seat.front ≤ seat.made → IsUnmade fault
 unmade_by seat Memory is own = tt
 unmade_by seat Foreign is own = absurd (omega (arith, is, own))
 unmade_by seat NoEntry is own = absurd is

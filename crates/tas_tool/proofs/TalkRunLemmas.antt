@@ -20,9 +20,9 @@ use Rattle.tas_engines.specs.declared.fault.ToolFault.{ToolFault}
 use Rattle.tas_engines.specs.declared.fault.ToolFault.TheVariants.{Read, Run}
 use Rattle.tas_engines.specs.Input.{IsReadWhole, StopsReading}
 use Rattle.tas_engines.specs.Tracing.{IsImageFault}
-use Rattle.tas_tool.specs.Talk.{IsUntouched, IsCartTalk, IsMovieTalk, IsTalkLeaving, IsCartTalkLeaving, IsMovieTalkLeaving, DraftedState, drafted, AreExchanges, fresh_talk_state, talk_state_from}
-use Rattle.tas_tool.specs.Inside.Alone.{SeesOwn, StartsTalk, end_of, left_of, EndsMade}
-use Rattle.tas_tool.specs.Inside.Holding.{ReadsMovie}
+use Rattle.tas_tool.specs.Talk.{LinesRunTo, OverCart, OverMovie, IsUntouched, IsCartTalk, IsMovieTalk, IsTalkLeaving, IsCartTalkLeaving, IsMovieTalkLeaving, DraftedState, drafted, AreExchanges, fresh_talk_state, talk_state_from}
+use Rattle.tas_tool.specs.Inside.Alone.{SeesOwn, end_of, left_of, EndsMade}
+use Rattle.tas_tool.specs.Inside.Holding.{ReadsCart, ReadsMovie}
 use Rattle.tas_seat.specs.Turns.{Standing, standing_of}
 use Rattle.tas_seat.specs.Requests.{TalkState}
 use Rattle.tas_tool.specs.Scripts.{standing_at_start}
@@ -37,7 +37,7 @@ no_exchanges : (state : DraftedState) → AreExchanges state [] state
 unfolding AreExchanges
 no_exchanges state = refl
 
-untouched : (input output : Option (List ℕ)) → IsUntouched input input output output
+pub untouched : (input output : Option (List ℕ)) → IsUntouched input input output output
 untouched input output = record { unread = refl; unwritten = Keeps-refl output }
 
 pub no_memory_yet : (start : DraftedState) (input output : Option (List ℕ)) → IsTalkLeaving None start input input output output (Err (Run Memory))
@@ -124,33 +124,36 @@ talk_ended left other start input input' output output' result end is ends talk 
 
 -- ---- over a cartridge
 
-pub cart_unread : (cart cart' : Option (List ℕ)) (fault : ReadFault) (e : ToolFault) → StopsReading cart cart' fault → e ≡ Read fault → StartsTalk (λ left. IsCartTalkLeaving left cart cart') (Err e)
-cart_unread cart cart' fault e stops is = λ input output. inl (fault, ap Err is, stops, (untouched input output, refl))
+pub cart_unread : (cart cart' : Option (List ℕ)) (fault : ReadFault) (e : ToolFault) → StopsReading cart cart' fault → e ≡ Read fault → ReadsCart cart cart' (Err e)
+cart_unread cart cart' fault e stops is = inl (fault, is, stops)
 
-pub cart_unmade : (cart cart' : Option (List ℕ)) (read image : List ℕ) (fault : RunFault) (e : ToolFault) → IsReadWhole cart cart' read → image ≡ read → IsImageFault image fault → e ≡ Run fault
-    → StartsTalk (λ left. IsCartTalkLeaving left cart cart') (Err e)
-cart_unmade cart cart' read image fault e whole same why is = λ input output.
-    inr (image, subst (IsReadWhole cart cart') (sym same) whole, inl (fault, ap Err is, why, (untouched input output, refl)))
+pub cart_unmade : (cart cart' : Option (List ℕ)) (read image : List ℕ) (fault : RunFault) (e : ToolFault) → IsReadWhole cart cart' read → image ≡ read → IsImageFault image fault → e ≡ Run fault → ReadsCart cart cart' (Err e)
+cart_unmade cart cart' read image fault e whole same why is = inr (image, subst (IsReadWhole cart cart') (sym same) whole, (fault, is, why))
 
-pub cart_started : (cart cart' : Option (List ℕ)) (read image : List ℕ) (movie : MovieContent) → IsReadWhole cart cart' read → image ≡ read → is_cart_size (length image) ≡ true → movie ≡ record { cart = image; inputs = [] }
-    → StartsTalk (λ left. IsCartTalkLeaving left cart cart') (Ok movie)
-cart_started cart cart' read image movie whole same long is = λ left input input' output output' end talk.
-    inr (
-      image,
-      subst (IsReadWhole cart cart') (sym same) whole,
-      inr (long, subst (λ (m : MovieContent). IsTalkLeaving left (talk_state_from (Some m)) input input' output output' end) is talk),
-    )
+pub cart_started : (cart cart' : Option (List ℕ)) (read image : List ℕ) (movie : MovieContent) → IsReadWhole cart cart' read → image ≡ read → is_cart_size (length image) ≡ true → movie ≡ record { cart = image; inputs = [] } → ReadsCart cart cart' (Ok movie)
+cart_started cart cart' read image movie whole same long is = (image, subst (IsReadWhole cart cart') (sym same) whole, long, is)
+
+pub over_no_cart : {E : Type 0} (tool : ToolFault → E) (IsUnread : (input input' output output' : Option (List ℕ)) → Type 0) (IsSuch : DraftedState → LinesRunTo E) (cart cart' input output : Option (List ℕ)) (end : ToolFault) → ReadsCart cart cart' (Err end)
+    → IsUnread input input output output → OverCart tool IsUnread IsSuch cart cart' input input output output (Err (tool end))
+over_no_cart {E} tool IsUnread IsSuch cart cart' input output end (inl (fault, is, stops)) none = inl (fault, ap (λ (f : ToolFault). let r : Result (Unit {0}) E = Err (tool f) in r) is, stops, none)
+over_no_cart {E} tool IsUnread IsSuch cart cart' input output end (inr (image, whole, (fault, is, why))) none = inr (image, whole, inl (fault, ap (λ (f : ToolFault). let r : Result (Unit {0}) E = Err (tool f) in r) is, why, none))
+
+pub over_cart : {E : Type 0} (tool : ToolFault → E) (IsUnread : (input input' output output' : Option (List ℕ)) → Type 0) (IsSuch : DraftedState → LinesRunTo E) (cart cart' input input' output output' : Option (List ℕ)) (content : MovieContent) (end : Result (Unit {0}) E)
+    → ReadsCart cart cart' (Ok content) → IsSuch (talk_state_from (Some content)) input input' output output' end → OverCart tool IsUnread IsSuch cart cart' input input' output output' end
+over_cart tool IsUnread IsSuch cart cart' input input' output output' content end (image, whole, long, is) talk =
+    inr (image, whole, inr (long, subst (λ (m : MovieContent). IsSuch (talk_state_from (Some m)) input input' output output' end) is talk))
 
 -- ---- over a movie
 
-pub movie_unread : (cart cart' movie movie' input output : Option (List ℕ)) (end : ToolFault) → ReadsMovie cart cart' movie movie' (Err end)
-    → IsMovieTalkLeaving None cart cart' movie movie' input input output output (Err end)
-movie_unread cart cart' movie movie' input output end (inl (fault, is, stops)) = inl (fault, ap Err is, stops, (untouched input output, refl))
-movie_unread cart cart' movie movie' input output end (inr (image, said, whole, whole', (fault, is, why))) = inr (image, said, whole, whole', inl (fault, ap Err is, why, (untouched input output, refl)))
+pub over_no_movie : {E : Type 0} (tool : ToolFault → E) (IsUnread : (input input' output output' : Option (List ℕ)) → Type 0) (IsSuch : DraftedState → LinesRunTo E) (cart cart' movie movie' input output : Option (List ℕ)) (end : ToolFault) → ReadsMovie cart cart' movie movie' (Err end)
+    → IsUnread input input output output → OverMovie tool IsUnread IsSuch cart cart' movie movie' input input output output (Err (tool end))
+over_no_movie {E} tool IsUnread IsSuch cart cart' movie movie' input output end (inl (fault, is, stops)) none = inl (fault, ap (λ (f : ToolFault). let r : Result (Unit {0}) E = Err (tool f) in r) is, stops, none)
+over_no_movie {E} tool IsUnread IsSuch cart cart' movie movie' input output end (inr (image, said, whole, whole', (fault, is, why))) none =
+    inr (image, said, whole, whole', inl (fault, ap (λ (f : ToolFault). let r : Result (Unit {0}) E = Err (tool f) in r) is, why, none))
 
-pub movie_read : (left : Option MovieContent) (cart cart' movie movie' input input' output output' : Option (List ℕ)) (content : MovieContent) (end : Result (Unit {0}) ToolFault) → ReadsMovie cart cart' movie movie' (Ok content)
-    → IsTalkLeaving left (talk_state_from (Some content)) input input' output output' end → IsMovieTalkLeaving left cart cart' movie movie' input input' output output' end
-movie_read left cart cart' movie movie' input input' output output' content end (image, said, whole, whole', is) talk = inr (image, said, whole, whole', inr (content, is, talk))
+pub over_movie : {E : Type 0} (tool : ToolFault → E) (IsUnread : (input input' output output' : Option (List ℕ)) → Type 0) (IsSuch : DraftedState → LinesRunTo E) (cart cart' movie movie' input input' output output' : Option (List ℕ)) (content : MovieContent)
+    (end : Result (Unit {0}) E) → ReadsMovie cart cart' movie movie' (Ok content) → IsSuch (talk_state_from (Some content)) input input' output output' end → OverMovie tool IsUnread IsSuch cart cart' movie movie' input input' output output' end
+over_movie tool IsUnread IsSuch cart cart' movie movie' input input' output output' content end (image, said, whole, whole', is) talk = inr (image, said, whole, whole', inr (content, is, talk))
 
 -- ---- without what is left
 

@@ -1,5 +1,5 @@
 -- Conversations on a desk of one seat: each line is answered at what the lines before it made.
-use Rattle.std.specs.Prelude.{◌≡◌, ℕ, ◌+◌, ◌-◌, List, [], ◌∷◌, ◌++◌, length, take, drop, Bool, true, if◌then◌else◌, Option, Some, None, Result, Ok, Err, ◌⊎◌}
+use Rattle.std.specs.Prelude.{◌≡◌, ℕ, ◌+◌, List, [], ◌∷◌, ◌++◌, length, take, drop, Bool, true, if◌then◌else◌, Option, Some, None, Result, Ok, Err, ◌⊎◌}
 use Rattle.std.specs.List.{flat_map}
 use Rattle.std.specs.Io.KnownBytes.{Appends, Consumes, IsAtEnd, Keeps}
 use Rattle.byte_text.specs.Splitting.{NoByte}
@@ -19,13 +19,16 @@ use Rattle.tas_engines.specs.Tracing.{IsImageFault}
 use Rattle.tas_language.specs.declared.reply.Reply.TheVariants.{OutOfMemory}
 use Rattle.tas_language.specs.Replies.{reply_text}
 use Rattle.tas_language.specs.declared.request.Request.{Request}
-use Rattle.tas_language.specs.declared.request.Request.TheVariants.{Pictures, Share, History, Begin, Commit, Drop}
+use Rattle.tas_language.specs.declared.request.Request.TheVariants.{Pictures, History}
 use Rattle.tas_language.specs.Requests.{IsHeard}
 use Rattle.tas_language.specs.Answers.{unknown_text}
 use Rattle.tas_language.specs.declared.draft_reply.DraftReply.TheVariants.{Dropped, NoDraft, InDraft}
 use Rattle.tas_language.specs.Drafts.{draft_reply_text}
 use Rattle.tas_seat.specs.Turns.{Standing}
-use Rattle.tas_seat.specs.Requests.{TalkState, Rests, IsPictureAnswer, IsAnswerTo as IsAnswerAt}
+use Rattle.tas_seat.specs.Requests.{TalkState, Rests, IsPictureAnswer, IsStrip, IsAnswerTo as IsAnswerAt}
+use Rattle.tas_seat.specs.declared.conversation.Subject.{Subject}
+use Rattle.tas_seat.specs.declared.conversation.Subject.TheVariants as subject
+use Rattle.tas_seat.specs.Subjects.{subject_of}
 use Rattle.tas_seat.specs.Drafts.{DraftContent, IsDraft, IsDraftAnswered}
 use Rattle.tas_seat.specs.Conversations.{IsBeginAnswer, IsCommitAnswer}
 use Rattle.tas_published.specs.Strokes.{edited_by}
@@ -38,20 +41,6 @@ use Rattle.tas_tool.specs.Scripts.{IsUnmade, standing_at_start}
 use Rattle.tas_tool.specs.MovieScripts.{edits_of_movie, standing_of_movie}
 
 -- ---- the answer to one line
-
--- the answer to one frame of a strip, and what is made and kept then
-pub record StripAnswer : Type 0 where
-  pub answer : List ℕ
-  pub next : TalkState
-
--- frames from `from` on are answered as by `picture`, each at what the one before left; the last state is what all of them left
-unfoldable pub AreStrip : TalkState → ℕ → List StripAnswer → TalkState → Type 0
-AreStrip state from [] last = last ≡ state
-AreStrip state from (shown ∷ strip) last = IsPictureAnswer state from shown.answer shown.next × AreStrip shown.next (from + 1) strip last
-
--- the answers of a strip, one after the other
-abbrev pub strip_answers : List StripAnswer → List ℕ
-strip_answers strip = flat_map (λ shown. shown.answer) strip
 
 -- the edits that were made, as entries of a history: each is the only seat's, whose number is 0
 abbrev pub own_entries : List EditContent → List (Entry (Unit {0}))
@@ -66,7 +55,7 @@ pub record IsOwnHistory (state : TalkState) (edits : List EditContent) (from : �
 -- the answer to a request at what was made and kept so far, and what is made and kept then. `quit` gets no answer: it ends the
 -- conversation
 abbrev pub IsAnswerTo : TalkState → List EditContent → Request → List ℕ → TalkState → Type 0
-IsAnswerTo state edits (Pictures from to) answer next = (strip : List StripAnswer) × (length strip ≡ to - from) × AreStrip state from strip next × (answer ≡ strip_answers strip)
+IsAnswerTo state edits (Pictures from to) answer next = IsStrip IsPictureAnswer state from to answer next
 IsAnswerTo state edits (History from) answer next = IsOwnHistory state edits from answer next
 IsAnswerTo state edits request answer next = IsAnswerAt state request answer next
 
@@ -97,21 +86,29 @@ pub record IsOwnCommit (state : TalkState) (edits : List EditContent) (draft : D
   pub edits_are : next.edits ≡ edits ++ stroke
   pub rests : Rests state next.state
 
--- a request is answered where no draft is open
-abbrev pub IsOutsideAnswer : TalkState → List EditContent → Request → List ℕ → DraftedState → Type 0
-IsOutsideAnswer state edits Begin answer next = IsBeginAnswer state answer next.state next.draft × (next.edits ≡ edits)
-IsOutsideAnswer state edits Commit answer next = (answer ≡ draft_reply_text NoDraft) × (next ≡ drafted state edits None)
-IsOutsideAnswer state edits Drop answer next = (answer ≡ draft_reply_text NoDraft) × (next ≡ drafted state edits None)
-IsOutsideAnswer state edits request answer next = IsAnswerTo state edits request answer next.state × (next.edits ≡ edits ++ edits_between state next.state request) × (next.draft ≡ None)
+-- a request about this is answered where no draft is open
+abbrev pub IsOutsideAnswerOf : Subject → TalkState → List EditContent → Request → List ℕ → DraftedState → Type 0
+IsOutsideAnswerOf subject.Begin state edits request answer next = IsBeginAnswer state answer next.state next.draft × (next.edits ≡ edits)
+IsOutsideAnswerOf subject.Commit state edits request answer next = (answer ≡ draft_reply_text NoDraft) × (next ≡ drafted state edits None)
+IsOutsideAnswerOf subject.Drop state edits request answer next = (answer ≡ draft_reply_text NoDraft) × (next ≡ drafted state edits None)
+IsOutsideAnswerOf subject.Desk state edits request answer next = IsAnswerTo state edits request answer next.state × (next.edits ≡ edits ++ edits_between state next.state request) × (next.draft ≡ None)
+IsOutsideAnswerOf subject.Movie state edits request answer next = IsAnswerTo state edits request answer next.state × (next.edits ≡ edits ++ edits_between state next.state request) × (next.draft ≡ None)
+IsOutsideAnswerOf subject.End state edits request answer next = ⊥
 
--- a request is answered in a draft. `share` and `history` are about what was made so far
+abbrev pub IsOutsideAnswer : TalkState → List EditContent → Request → List ℕ → DraftedState → Type 0
+IsOutsideAnswer state edits request answer next = IsOutsideAnswerOf (subject_of request) state edits request answer next
+
+-- a request about this is answered in a draft. `share` and `history` are about what was made so far
+abbrev pub IsInsideAnswerOf : Subject → TalkState → List EditContent → DraftContent → Request → List ℕ → DraftedState → Type 0
+IsInsideAnswerOf subject.Begin state edits draft request answer next = (answer ≡ draft_reply_text InDraft) × (next ≡ drafted state edits (Some draft))
+IsInsideAnswerOf subject.Commit state edits draft request answer next = IsOwnCommit state edits draft answer next
+IsInsideAnswerOf subject.Drop state edits draft request answer next = (answer ≡ draft_reply_text Dropped) × (next ≡ drafted state edits None)
+IsInsideAnswerOf subject.Desk state edits draft request answer next = IsAnswerTo state edits request answer next.state × (next.edits ≡ edits) × (next.draft ≡ Some draft)
+IsInsideAnswerOf subject.Movie state edits draft request answer next = (after : DraftContent) × IsDraftAnswered draft request answer after × IsDraft after × (next ≡ drafted state edits (Some after))
+IsInsideAnswerOf subject.End state edits draft request answer next = ⊥
+
 abbrev pub IsInsideAnswer : TalkState → List EditContent → DraftContent → Request → List ℕ → DraftedState → Type 0
-IsInsideAnswer state edits draft Begin answer next = (answer ≡ draft_reply_text InDraft) × (next ≡ drafted state edits (Some draft))
-IsInsideAnswer state edits draft Commit answer next = IsOwnCommit state edits draft answer next
-IsInsideAnswer state edits draft Drop answer next = (answer ≡ draft_reply_text Dropped) × (next ≡ drafted state edits None)
-IsInsideAnswer state edits draft Share answer next = IsAnswerTo state edits Share answer next.state × (next.edits ≡ edits) × (next.draft ≡ Some draft)
-IsInsideAnswer state edits draft (History from) answer next = IsAnswerTo state edits (History from) answer next.state × (next.edits ≡ edits) × (next.draft ≡ Some draft)
-IsInsideAnswer state edits draft request answer next = (after : DraftContent) × IsDraftAnswered draft request answer after × IsDraft after × (next ≡ drafted state edits (Some after))
+IsInsideAnswer state edits draft request answer next = IsInsideAnswerOf (subject_of request) state edits draft request answer next
 
 abbrev pub IsDraftedAnswer : TalkState → List EditContent → Option DraftContent → Request → List ℕ → DraftedState → Type 0
 IsDraftedAnswer state edits None request answer next = IsOutsideAnswer state edits request answer next
@@ -225,38 +222,42 @@ abbrev pub cart_talk_state : List ℕ → DraftedState
 cart_talk_state image = talk_state_from (Some (record { cart = image; inputs = [] }))
 
 -- how something ends that reads lines and writes answers, from what its reader has and its writer holds before to what they have and hold afterwards
-abbrev pub LinesRun : Type 1
-LinesRun = (input input' output output' : Option (List ℕ)) → Result (Unit {0}) ToolFault → Type 0
+abbrev pub LinesRunTo : Type 0 → Type 1
+LinesRunTo E = (input input' output output' : Option (List ℕ)) → Result (Unit {0}) E → Type 0
 
--- reading the cartridge stopped, or its size is wrong, and the conversation didn't begin; or it goes on from the cartridge
-abbrev pub OverCart : (IsUnbegun : (input input' output output' : Option (List ℕ)) → Type 0) → (IsSuch : DraftedState → LinesRun) → (cart cart' : Option (List ℕ)) → LinesRun
-OverCart IsUnbegun IsSuch cart cart' input input' output output' result =
-    ((fault : ReadFault) × (result ≡ Err (Read fault)) × StopsReading cart cart' fault × IsUnbegun input input' output output')
+abbrev pub LinesRun : Type 1
+LinesRun = LinesRunTo ToolFault
+
+-- reading the cartridge stopped, or its size is wrong, and the conversation didn't begin; or it goes on from the cartridge. Faults of the files are
+-- named by `tool` among those of the conversation
+abbrev pub OverCart : {E : Type 0} → (tool : ToolFault → E) → (IsUnbegun : (input input' output output' : Option (List ℕ)) → Type 0) → (IsSuch : DraftedState → LinesRunTo E) → (cart cart' : Option (List ℕ)) → LinesRunTo E
+OverCart tool IsUnbegun IsSuch cart cart' input input' output output' result =
+    ((fault : ReadFault) × (result ≡ Err (tool (Read fault))) × StopsReading cart cart' fault × IsUnbegun input input' output output')
     ⊎ ((image : List ℕ) × IsReadWhole cart cart' image
-    × (((fault : RunFault) × (result ≡ Err (Run fault)) × IsImageFault image fault × IsUnbegun input input' output output')
+    × (((fault : RunFault) × (result ≡ Err (tool (Run fault))) × IsImageFault image fault × IsUnbegun input input' output output')
     ⊎ ((is_cart_size (length image) ≡ true) × IsSuch (cart_talk_state image) input input' output output' result)))
 
 -- reading the cartridge and the movie stopped, or they make no movie, and the conversation didn't begin; or it goes on from the movie
-abbrev pub OverMovie : (IsUnbegun : (input input' output output' : Option (List ℕ)) → Type 0) → (IsSuch : DraftedState → LinesRun) → (cart cart' movie movie' : Option (List ℕ)) → LinesRun
-OverMovie IsUnbegun IsSuch cart cart' movie movie' input input' output output' result =
-    ((fault : ReadFault) × (result ≡ Err (Read fault)) × StopsReadingTwo cart cart' movie movie' fault × IsUnbegun input input' output output')
+abbrev pub OverMovie : {E : Type 0} → (tool : ToolFault → E) → (IsUnbegun : (input input' output output' : Option (List ℕ)) → Type 0) → (IsSuch : DraftedState → LinesRunTo E) → (cart cart' movie movie' : Option (List ℕ)) → LinesRunTo E
+OverMovie tool IsUnbegun IsSuch cart cart' movie movie' input input' output output' result =
+    ((fault : ReadFault) × (result ≡ Err (tool (Read fault))) × StopsReadingTwo cart cart' movie movie' fault × IsUnbegun input input' output output')
     ⊎ ((image : List ℕ) × (said : List ℕ) × IsReadWhole cart cart' image × IsReadWhole movie movie' said
-    × (((fault : RunFault) × (result ≡ Err (Run fault)) × IsMovieFault image said fault × IsUnbegun input input' output output')
+    × (((fault : RunFault) × (result ≡ Err (tool (Run fault))) × IsMovieFault image said fault × IsUnbegun input input' output output')
     ⊎ ((content : MovieContent) × IsMovieOf image said content × IsSuch (talk_state_from (Some content)) input input' output output' result)))
 
 -- `tas talk CART`, and `tas talk CART MOVIE`
 abbrev pub IsCartTalk : (cart cart' : Option (List ℕ)) → LinesRun
-IsCartTalk cart cart' input input' output output' result = OverCart IsUntouched IsTalk cart cart' input input' output output' result
+IsCartTalk cart cart' input input' output output' result = OverCart (λ fault. fault) IsUntouched IsTalk cart cart' input input' output output' result
 
 abbrev pub IsMovieTalk : (cart cart' movie movie' : Option (List ℕ)) → LinesRun
-IsMovieTalk cart cart' movie movie' input input' output output' result = OverMovie IsUntouched IsTalk cart cart' movie movie' input input' output output' result
+IsMovieTalk cart cart' movie movie' input input' output output' result = OverMovie (λ fault. fault) IsUntouched IsTalk cart cart' movie movie' input input' output output' result
 
 -- the same with what they leave, which is no movie where the conversation didn't begin
 abbrev pub IsUnbegun : Option MovieContent → (input input' output output' : Option (List ℕ)) → Type 0
 IsUnbegun left input input' output output' = IsUntouched input input' output output' × (left ≡ None)
 
 abbrev pub IsCartTalkLeaving : Option MovieContent → (cart cart' : Option (List ℕ)) → LinesRun
-IsCartTalkLeaving left cart cart' input input' output output' result = OverCart (IsUnbegun left) (IsTalkLeaving left) cart cart' input input' output output' result
+IsCartTalkLeaving left cart cart' input input' output output' result = OverCart (λ fault. fault) (IsUnbegun left) (IsTalkLeaving left) cart cart' input input' output output' result
 
 abbrev pub IsMovieTalkLeaving : Option MovieContent → (cart cart' movie movie' : Option (List ℕ)) → LinesRun
-IsMovieTalkLeaving left cart cart' movie movie' input input' output output' result = OverMovie (IsUnbegun left) (IsTalkLeaving left) cart cart' movie movie' input input' output output' result
+IsMovieTalkLeaving left cart cart' movie movie' input input' output output' result = OverMovie (λ fault. fault) (IsUnbegun left) (IsTalkLeaving left) cart cart' movie movie' input input' output output' result

@@ -18,7 +18,7 @@ use tas_movie::{Edit, Inputs, Movie};
 use vcs_machine::Cart;
 
 /// How many edits [`put_movie`] makes.
-const MOVIE_EDITS: u64 = 2;
+pub const MOVIE_EDITS: u64 = 2;
 
 /// This end, if the history at which it was reached has just the two edits that made the movie; else `Foreign`.
 pub fn unless_foreign(at: u64, end: Result<(), RunFault>) -> Result<(), RunFault>

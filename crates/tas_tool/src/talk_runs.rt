@@ -9,7 +9,8 @@ ghost use Rattle.tas_desk.specs.Seats.{name_of};
 ghost use Rattle.tas_engines.specs.Tracing.{IsImageFault};
 ghost use Rattle.tas_movie.specs.Content.{blank_movie};
 ghost use Rattle.tas_tool.specs.Talk.{talk_state_from, IsCartTalkLeaving, IsMovieTalkLeaving, IsTalkLeaving};
-ghost use Rattle.tas_tool.specs.Inside.Alone.{end_of, left_of, EndsMade, SeesOwn, StartsTalk};
+ghost use Rattle.tas_tool.specs.Inside.Alone.{end_of, left_of, EndsMade, SeesOwn};
+ghost use Rattle.tas_tool.specs.Inside.Holding.{ReadsCart};
 
 use crate::making::{put_movie, read_movie};
 use crate::opening::open_alone;
@@ -148,12 +149,11 @@ fn blank_movie_of<A: Allocator + Copy>(alloc: A, image: &[u8]) -> Result<Movie<A
 /// Reads a cartridge, and makes the movie of it with no inputs. What was read is dropped here, since a conversation may be long.
 ///
 /// Faults, in order: those of [`read_input`], then those of `blank_movie_of`.
-fn read_blank_movie<A: Allocator + Copy, C: Read>(
+pub(crate) fn read_blank_movie<A: Allocator + Copy, C: Read>(
     alloc: A,
     cart: &mut C,
 ) -> Result<Movie<A>, ToolFault>
-    ensures { StartsTalk
-        (λ left. IsCartTalkLeaving left (C.remaining cart.old) (C.remaining cart.new)) result }
+    ensures { ReadsCart (C.remaining cart.old) (C.remaining cart.new) result }
 {
     let image = read_input(alloc, cart)?;
     Ok(blank_movie_of(alloc, image.as_slice())?)

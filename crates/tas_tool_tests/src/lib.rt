@@ -19,6 +19,10 @@ mod movie_script_tests;
 #[cfg(test)]
 mod movies;
 #[cfg(test)]
+mod noted_talk_tests;
+#[cfg(test)]
+mod noted_talks;
+#[cfg(test)]
 mod pictures;
 #[cfg(test)]
 mod plain_editor;

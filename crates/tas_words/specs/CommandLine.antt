@@ -16,7 +16,7 @@ use Rattle.tas_film.specs.Runs.{most_workers}
 use Rattle.tas_words.specs.declared.subcommands.Subcommand.{Subcommand}
 use Rattle.tas_words.specs.declared.subcommands.Word.{Word}
 use Rattle.tas_words.specs.declared.subcommands.WordKind.{WordKind}
-use Rattle.tas_words.specs.declared.subcommands.WordKind.TheVariants.{File, OptionalFile, PairedFile, Flag, Output, Number, OptionalNumber, NumberFlag}
+use Rattle.tas_words.specs.declared.subcommands.WordKind.TheVariants.{File, OptionalFile, PairedFile, Flag, LoneFlag, Output, Number, OptionalNumber, NumberFlag}
 use Rattle.tas_words.specs.declared.task.Task.{Task}
 use Rattle.tas_words.specs.Task.{HasWords, IsOptionalWord, most_traced, most_every, most_line}
 
@@ -79,6 +79,13 @@ flag_rule name flag = record (new_rule name) {
   is_free = false;
 }
 
+-- a word after a flag, which goes with no other one
+abbrev pub lone_flag_rule : Text → Text → Rule
+lone_flag_rule name flag = record (may_word_rule name) {
+  long = Some flag;
+  value_names = 1;
+}
+
 -- a number in a range after a flag, which may be left out
 abbrev pub number_flag_rule : Text → Text → ℕ → ℕ → Rule
 number_flag_rule name flag least most = record (may_number_rule name least most) {
@@ -105,6 +112,7 @@ kind_rule name File = file_rule name
 kind_rule name OptionalFile = may_word_rule name
 kind_rule name (PairedFile other) = paired_word_rule name
 kind_rule name (Flag flag other) = flag_rule name flag.now
+kind_rule name (LoneFlag flag) = lone_flag_rule name flag.now
 kind_rule name Output = output_rule name
 kind_rule name (Number least most) = number_rule name least most
 kind_rule name (OptionalNumber least most) = may_number_rule name least most
@@ -177,8 +185,9 @@ next_shapes =
     ∷ shape_with (codes "recover") (cart_rule ∷ number_flag_rule (codes "LINE") (codes "until") 1 most_line ∷ file_output_rule ∷ [])
     ∷ shape_with (codes "search") (cart_rule ∷ frame_rule (codes "FROM") ∷ number_rule (codes "FRAMES") 0 most_inputs ∷ word_rule (codes "GOAL") None
     ∷ flag_rule (codes "CHOICES") (codes "choices") ∷ flag_rule (codes "NAMES") (codes "names")
-    ∷ number_flag_rule (codes "N") (codes "hold") 1 most_inputs ∷ number_flag_rule (codes "STATES") (codes "most") 1 most_number
+    ∷ number_flag_rule (codes "N") (codes "hold") 1 most_inputs ∷ flag_rule (codes "K/N") (codes "first") ∷ number_flag_rule (codes "STATES") (codes "most") 1 most_number
     ∷ number_flag_rule (codes "WORKERS") (codes "workers") 1 most_workers ∷ flag_rule (codes "REPORT") (codes "report") ∷ [])
+    ∷ shape_with (codes "verify") (lone_flag_rule (codes "DIR") (codes "carts") ∷ number_flag_rule (codes "WORKERS") (codes "workers") 1 most_workers ∷ [])
     ∷ []
 
 -- those after them
@@ -188,7 +197,7 @@ later_shapes =
     ∷ shape_with (codes "cut") (cart_rule ∷ frame_rule (codes "FROM") ∷ frame_rule (codes "TO") ∷ file_output_rule ∷ [])
     ∷ shape_with (codes "diff") (cart_rule ∷ file_rule (codes "OLD") ∷ file_output_rule ∷ [])
     ∷ shape_with (codes "script") (flag_rule (codes "CART") (codes "cart") ∷ flag_rule (codes "MOVIE") (codes "movie") ∷ [])
-    ∷ shape_with (codes "talk") (may_word_rule (codes "CART") ∷ may_word_rule (codes "MOVIE") ∷ file_output_rule ∷ [])
+    ∷ shape_with (codes "talk") (may_word_rule (codes "CART") ∷ may_word_rule (codes "MOVIE") ∷ lone_flag_rule (codes "JOURNAL") (codes "journal") ∷ file_output_rule ∷ [])
     ∷ []
 
 -- the last one

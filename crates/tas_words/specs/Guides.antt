@@ -9,7 +9,7 @@ use Rattle.clap.specs.declared.builder.command.Command.TheViews.{out-Command}
 use Rattle.tas_words.specs.declared.subcommands.Subcommand.{Subcommand}
 use Rattle.tas_words.specs.declared.subcommands.Word.{Word}
 use Rattle.tas_words.specs.declared.subcommands.WordKind.{WordKind}
-use Rattle.tas_words.specs.declared.subcommands.WordKind.TheVariants.{File, OptionalFile, PairedFile, Flag, Output, Number, OptionalNumber, NumberFlag}
+use Rattle.tas_words.specs.declared.subcommands.WordKind.TheVariants.{File, OptionalFile, PairedFile, Flag, LoneFlag, Output, Number, OptionalNumber, NumberFlag}
 
 -- a command's name, its usage, its tip if it reads standard input, and of each word that stands after no flag whether it is a number
 pub record Guide : Type 0 where
@@ -27,6 +27,7 @@ kind_number File = Some false
 kind_number OptionalFile = Some false
 kind_number (PairedFile other) = Some false
 kind_number (Flag flag other) = None
+kind_number (LoneFlag flag) = None
 kind_number Output = None
 kind_number (Number least most) = Some true
 kind_number (OptionalNumber least most) = Some true
@@ -48,6 +49,7 @@ usage_word name File = codes " <" ++ name ++ codes ">"
 usage_word name OptionalFile = codes " [" ++ name ++ codes "]"
 usage_word name (PairedFile other) = codes " [" ++ name ++ codes "]"
 usage_word name (Flag flag other) = []
+usage_word name (LoneFlag flag) = []
 usage_word name Output = []
 usage_word name (Number least most) = codes " <" ++ name ++ codes ">"
 usage_word name (OptionalNumber least most) = codes " [" ++ name ++ codes "]"
@@ -60,6 +62,7 @@ usage_words (word ∷ words) = usage_word word.name.now word.kind ++ usage_words
 -- a word stands after a flag
 abbrev pub is_flagged : WordKind → Bool
 is_flagged (Flag flag other) = true
+is_flagged (LoneFlag flag) = true
 is_flagged Output = true
 is_flagged (NumberFlag flag least most) = true
 is_flagged _ = false
@@ -106,6 +109,8 @@ next_guides =
     (Some (codes "the journal is read from standard input: tas recover game.bin -o game.movie < game.journal")) (false ∷ [])
     ∷ guide (codes "search") (codes "tas search [OPTIONS] <CART> <FROM> <FRAMES> <GOAL> < MOVIE")
     (Some (codes "the movie is read from standard input: tas search game.bin 60 12 'reach byte:80 == 85' < game.movie")) (false ∷ true ∷ true ∷ false ∷ [])
+    ∷ guide (codes "verify") (codes "tas verify [OPTIONS] < MANIFEST")
+    (Some (codes "the manifest is read from standard input: tas verify --carts roms < movies.manifest")) []
     ∷ []
 
 -- the guides of the commands after those

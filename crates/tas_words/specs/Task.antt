@@ -1,5 +1,5 @@
 -- What the words of each command ask for.
-use Rattle.std.specs.Prelude.{◌≡◌, ℕ, ◌≤◌, List, [], ◌∷◌, ◌⊎◌, Option, Some, None, codes}
+use Rattle.std.specs.Prelude.{◌≡◌, ℕ, ◌≤◌, List, [], ◌∷◌, ◌++◌, ◌⊎◌, Option, Some, None, codes, decimal}
 use Rattle.std.specs.List.{filter_map}
 use Rattle.std.specs.Borrow.{Bor}
 use Rattle.std.specs.Str.Parse.{IsNumeral, digits_value, without_leading_plus}
@@ -9,11 +9,13 @@ use Rattle.tas_movie.specs.Content.{most_inputs}
 use Rattle.tas_film.specs.Runs.{most_workers}
 use Rattle.tas_words.specs.declared.task.Pair.{Pair}
 use Rattle.tas_words.specs.declared.task.Pairs.{Pairs}
+use Rattle.tas_words.specs.declared.task.PartWords.{PartWords}
 use Rattle.tas_words.specs.declared.task.SearchWords.{SearchWords}
 use Rattle.tas_words.specs.declared.task.Start.{Start}
 use Rattle.tas_words.specs.declared.task.Start.TheVariants.{Blank, Cart, Movie}
+use Rattle.tas_words.specs.declared.task.VerifyWords.{VerifyWords}
 use Rattle.tas_words.specs.declared.task.Task.{Task}
-use Rattle.tas_words.specs.declared.task.Task.TheVariants.{Trace, Check, Migrate, New, Recover, Search, Shot, Film, Export, Ram, Digest, Compare, Lag, Edit, Cut, Diff, Script, Talk, Desk}
+use Rattle.tas_words.specs.declared.task.Task.TheVariants.{Trace, Check, Migrate, New, Recover, Search, Verify, Shot, Film, Export, Ram, Digest, Compare, Lag, Edit, Cut, Diff, Script, Talk, Desk}
 
 -- the word of this name is this text
 abbrev pub IsWord : List Row → Text → Text → Type 0
@@ -83,6 +85,26 @@ default_states = 100000
 abbrev pub default_workers : ℕ
 default_workers = 1
 
+-- the most parts of a search's space
+abbrev pub most_parts : ℕ
+most_parts = 1000000
+
+-- there is such a part: from the first to the last one
+abbrev pub IsPart : PartWords → Type 0
+IsPart part = (1 ≤ part.number) × (part.number ≤ part.of) × (part.of ≤ most_parts)
+
+-- the text of a part: its number and how many there are, in decimal digits without leading zeros, with a '/' between
+abbrev pub part_text : PartWords → Text
+part_text part = decimal part.number ++ 47 ∷ decimal part.of
+
+-- the only part of one, which is the whole space
+abbrev pub whole_space : PartWords
+whole_space = record { number = 1; of = 1 }
+
+-- the word of this name is this part, or it is left out and the part is the whole
+abbrev pub IsPartOr : List Row → Text → PartWords → Type 0
+IsPartOr rows name part = (IsWord rows name (part_text part) × IsPart part) ⊎ (HasNoWord rows name × (part ≡ whole_space))
+
 -- the words are those of a search
 pub record AreSearchWords (rows : List Row) (words : SearchWords) : Type 0 where
   pub cart : IsWord rows (codes "CART") words.cart.now
@@ -92,9 +114,15 @@ pub record AreSearchWords (rows : List Row) (words : SearchWords) : Type 0 where
   pub choices : IsOptionalWord rows (codes "CHOICES") words.choices
   pub names : IsOptionalWord rows (codes "NAMES") words.names
   pub hold : IsNumberOr rows (codes "N") most_inputs default_hold words.hold
+  pub part : IsPartOr rows (codes "K/N") words.part
   pub states : IsNumberOr rows (codes "STATES") most_number default_states words.states
   pub workers : IsNumberOr rows (codes "WORKERS") most_workers default_workers words.workers
   pub report : IsOptionalWord rows (codes "REPORT") words.report
+
+-- the words are those of a verification
+pub record AreVerifyWords (rows : List Row) (words : VerifyWords) : Type 0 where
+  pub carts : IsOptionalWord rows (codes "DIR") words.carts
+  pub workers : IsNumberOr rows (codes "WORKERS") most_workers default_workers words.workers
 
 -- the words name what is started from: nothing, a cartridge, or a movie
 abbrev pub IsStart : List Row → Start → Type 0
@@ -137,6 +165,7 @@ HasWords name rows (New cart frames) = (name ≡ codes "new") × IsWord rows (co
 HasWords name rows (Recover words) =
     (name ≡ codes "recover") × IsWord rows (codes "CART") words.cart.now × IsOptionalNumberWord rows (codes "LINE") 1 most_line words.until
 HasWords name rows (Search words) = (name ≡ codes "search") × AreSearchWords rows words
+HasWords name rows (Verify words) = (name ≡ codes "verify") × AreVerifyWords rows words
 HasWords name rows (Shot cart k) = (name ≡ codes "shot") × IsWord rows (codes "CART") cart.now × IsFrameWord rows (codes "K") k
 HasWords name rows (Film cart from to) =
     (name ≡ codes "film") × IsWord rows (codes "CART") cart.now × IsOptionalFrameWord rows (codes "FROM") from × IsOptionalFrameWord rows (codes "TO") to
@@ -155,6 +184,6 @@ HasWords name rows (Cut cart from to) =
 HasWords name rows (Diff cart old) = (name ≡ codes "diff") × IsWord rows (codes "CART") cart.now × IsWord rows (codes "OLD") old.now
 HasWords name rows (Script None) = (name ≡ codes "script") × IsStart rows Blank
 HasWords name rows (Script (Some files)) = (name ≡ codes "script") × IsStart rows (Movie files)
-HasWords name rows (Talk start) = (name ≡ codes "talk") × IsStart rows start
+HasWords name rows (Talk words) = (name ≡ codes "talk") × IsStart rows words.start × IsOptionalWord rows (codes "JOURNAL") words.journal
 HasWords name rows (Desk cart movie pairs) =
     (name ≡ codes "desk") × IsWord rows (codes "CART") cart.now × IsWord rows (codes "MOVIE") movie.now × ArePairs rows pairs

@@ -6,7 +6,7 @@
 
 ghost use Rattle.std.specs.Prelude.{◌≡◌, IfOk, None, false, map};
 ghost use Rattle.clap.specs.Words.{app_of, rule_of};
-ghost use Rattle.tas_words.specs.CommandLine.{empty_line, flag_rule, may_number_rule, may_word_rule, number_flag_rule, number_rule, output_rule, paired_word_rule, rule_of_word, version_text, with_commands, word_rule, HasRules, HasVersion, IsCommandLine};
+ghost use Rattle.tas_words.specs.CommandLine.{empty_line, flag_rule, lone_flag_rule, may_number_rule, may_word_rule, number_flag_rule, number_rule, output_rule, paired_word_rule, rule_of_word, version_text, with_commands, word_rule, HasRules, HasVersion, IsCommandLine};
 ghost use Rattle.tas_words.specs.Guides.{HasUsage};
 
 use crate::subcommands::{
@@ -85,6 +85,18 @@ fn flag<'a>(
         .requires_arg(other)
 }
 
+/// A word that names a file, after a flag, and goes with no other one.
+fn lone_flag<'a>(alloc: Global, name: &'a str, flag: &'a str, help: &'a str) -> Arg<'a>
+    ensures local { result.global ≡ false }
+    ensures rule { rule_of result ≡ lone_flag_rule name.now flag.now }
+{
+    Arg::new(alloc, name)
+        .long(flag)
+        .action(ArgAction::Set)
+        .value_name(name)
+        .help(help)
+}
+
 /// A word that names the file for the output, after `-o` or `--output`.
 fn output<'a>(alloc: Global, name: &'a str, help: &'a str) -> Arg<'a>
     ensures local { result.global ≡ false }
@@ -158,6 +170,7 @@ fn arg_of<'a>(alloc: Global, word: Word) -> Result<Arg<'a>, AllocError>
         WordKind::OptionalFile => Ok(optional_file(alloc, name, help)),
         WordKind::PairedFile { other } => paired_file(alloc, name, other, help),
         WordKind::Flag { flag: long, other } => flag(alloc, name, long, other, help),
+        WordKind::LoneFlag { flag: long } => Ok(lone_flag(alloc, name, long, help)),
         WordKind::Output => Ok(output(alloc, name, help)),
         WordKind::Number { least, most } => Ok(number(alloc, name, help, least, most)),
         WordKind::OptionalNumber { least, most } => {
@@ -185,7 +198,10 @@ fn with_words<'a>(alloc: Global, subcommand: Subcommand) -> Result<Command<'a>, 
 }
 
 /// A command, as clap takes it.
-fn command_of<'a>(alloc: Global, subcommand: Subcommand) -> Result<Command<'a>, AllocError>
+pub(crate) fn command_of<'a>(
+    alloc: Global,
+    subcommand: Subcommand,
+) -> Result<Command<'a>, AllocError>
     ensures rules { IfOk result
         (HasRules subcommand.name.now (map rule_of_word subcommand.words.now)) }
     // Refused: usage_is_the_summary.

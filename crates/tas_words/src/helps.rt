@@ -78,18 +78,46 @@ byte), a name of the names file, 'not' and one of these, or two with an operator
 CHOICES has a frame in each line, as '..D.F ..... .....'. Without it the choices are the left
 stick's nine directions, and the same with fire. NAMES has a name and an address in each line, as
 'x 85'. With --hold a choice is held for N frames, and FRAMES is a multiple of N.
+With --first 2/3 only the second of three parts is searched: the sequences that begin with the
+second third of the choices. If no part stopped, the best of the parts is the best of all, so
+several processes can share a search. The verdict on a part begins with 'part 2 of 3: '.
 Standard output is a script for 'tas edit' that writes the best sequence into the movie: of those
-that are as good the first one, in the order of the choices. Standard error has a line for each
-number of choices as it is searched, and then the verdict, a line 'best of all N sequences'; so has
-the new file REPORT. Where no sequence does it, the verdict begins with 'none', and where K choices
-reach more than STATES different states, with 'stopped: more than STATES states in layer K'. Neither
-writes a script. --most with a greater number keeps more states, in more memory. WORKERS threads
-share the work; the answer is the same for each number of them.
+that are as good the first one, in the order of the choices.
+The sequences of one choice are searched first, then those of two, and so on. The different states
+that those of K choices reach are layer K. Standard error gets a line for each layer once it is
+searched, and at the end the verdict: 'best of all M sequences', where M counts all that there are,
+with --first those of the part. The new file REPORT gets the same lines. If no sequence does what
+GOAL asks for, the verdict begins with 'none'. If layer K has more than STATES states, the search
+ends there, and the verdict begins with 'stopped: more than STATES states in layer K'. Neither
+writes a script. A greater number after --most takes more memory. The answer is the same whatever
+the number of threads.
 
 Examples:
   examples/cart joystick > joystick.bin
   ./tas search joystick.bin 35 20 'reach byte:80 <= 70' < examples/joystick.movie > best.script
   ./tas edit joystick.bin best.script -o best.movie < examples/joystick.movie";
+
+pub(crate) const VERIFY_HELP: &str = "\
+Standard input is a manifest, a line for each movie: the movie's file, the cartridge's file or its
+SHA-256 in 64 lower case hexadecimal digits, and the file with the digest that 'tas digest' made of
+them. Between the words is a tab where the line has one, so that names may have spaces, and else a
+space. A '#' and all after it is a remark, and a line may be empty.
+Each movie is played, and standard output has a line for each, in the manifest's order: its name and
+  ok                     its digest is still the one that was stored, in the same stretches
+  differs at K           it differs first in the stretch that begins with frame K
+  differs in line L      it differs in line 1 to 4: the machine's profile, the cartridge, the movie
+  halted at F00D by 02, or another fault of 'tas digest'
+  movie not found, cartridge not found, digest not found, or why one couldn't be read
+and a last line that counts, as '498 of 500 ok'. The status is 0 only if all are ok.
+A cartridge that is named by its SHA-256 is found among the files of 2048 and 4096 bytes right in
+DIR, whatever their names. If a line of the manifest is at fault, no movie is played. The lines
+don't depend on the number of threads. At a terminal, standard error says from time to time how many
+movies are done and left, and how many frames are played in a second.
+
+Example:
+  examples/cart joystick > joystick.bin
+  ./tas digest joystick.bin < examples/joystick.movie > joystick.digest
+  echo examples/joystick.movie joystick.bin joystick.digest | ./tas verify";
 
 pub(crate) const SHOT_HELP: &str = "\
 Standard input is the movie text, as for 'tas check'.
@@ -272,6 +300,10 @@ with status 2.
 With -o FILE the movie that the edits have made replaces FILE at the end, whatever ended the
 conversation; FILE may be MOVIE. A draft that is open then is lost. Without MOVIE FILE must be empty
 or not there.
+With --journal JOURNAL the new file JOURNAL has each edit, and is on the disk, before the answer to
+it goes out. 'tas recover' makes the movie of it, whatever ended the program. (A crash of the system
+soon after the start may take the file.) If it can't be written the conversation ends. If a file
+JOURNAL is there the status is 2.
 Fill a long movie by 'work' in steps, as 'work 4096', 'work 8192': each answer is the progress.
 A frame is 'RLDUF RLDUF rsbAB': right, left, down, up and fire of the left stick; the same of the
 right stick; reset, select, black and white, left difficulty A, right difficulty A. A dot in a
@@ -279,7 +311,9 @@ letter's place means that it isn't pressed or set.
 
 Examples:
   printf 'len\\nshot 60\\nstates\\nquit\\n' | ./tas talk joystick.bin examples/joystick.movie
-  echo delete 60 60 | ./tas talk joystick.bin examples/joystick.movie -o short.movie";
+  echo delete 60 60 | ./tas talk joystick.bin examples/joystick.movie -o short.movie
+  echo delete 0 9 | ./tas talk joystick.bin examples/joystick.movie --journal day.journal
+  ./tas recover joystick.bin -o day.movie < day.journal";
 
 pub(crate) const DESK_HELP: &str = "\
 Up to eight programs edit one movie at the same time. Each has a pair of files, as a rule two named

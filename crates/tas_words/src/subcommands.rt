@@ -8,7 +8,7 @@ ghost use Rattle.tas_words.specs.Guides.{first_guides, guide_of, has_its_words, 
 use crate::helps::{
     ANSWERS, CHECK_HELP, COMPARE_HELP, CUT_HELP, DESK_HELP, DIFF_HELP, DIGEST_HELP, EDIT_HELP,
     EXPORT_HELP, FILM_HELP, LAG_HELP, LINES, MIGRATE_HELP, NEW_HELP, RAM_HELP, RECOVER_HELP,
-    SCRIPT_HELP, SEARCH_HELP, SHOT_HELP, TALK_HELP, TRACE_HELP,
+    SCRIPT_HELP, SEARCH_HELP, SHOT_HELP, TALK_HELP, TRACE_HELP, VERIFY_HELP,
 };
 use crate::{
     MAX_EVERY, MAX_FRAME_NUMBER, MAX_FRAMES, MAX_INSTRUCTIONS, MAX_LINE, MAX_STATES, MAX_WORKERS,
@@ -29,6 +29,10 @@ pub(crate) enum WordKind {
     Flag {
         flag: &'static str,
         other: &'static str,
+    },
+    /// The name of a file after a flag, which goes with no other one.
+    LoneFlag {
+        flag: &'static str,
     },
     /// The name of a file after `-o` or `--output`.
     Output,
@@ -272,7 +276,7 @@ static FIRST_SUBCOMMANDS: [Subcommand; 10] = [
 ];
 
 /// Those after them.
-static NEXT_SUBCOMMANDS: [Subcommand; 3] = [
+static NEXT_SUBCOMMANDS: [Subcommand; 4] = [
     Subcommand {
         name: "new",
         usage: "tas new [OPTIONS] <CART> <FRAMES>",
@@ -368,8 +372,16 @@ static NEXT_SUBCOMMANDS: [Subcommand; 3] = [
                 },
             },
             Word {
+                name: "K/N",
+                help: "Searches part K of N alone, N up to 1000000: all if not given",
+                kind: WordKind::Flag {
+                    flag: "first",
+                    other: "GOAL",
+                },
+            },
+            Word {
                 name: "STATES",
-                help: "States to keep of a layer, 1 to 9999999: 100000 if not given",
+                help: "How many states a layer may have, 1 to 9999999: 100000 if not given",
                 kind: WordKind::NumberFlag {
                     flag: "most",
                     least: 1,
@@ -378,7 +390,7 @@ static NEXT_SUBCOMMANDS: [Subcommand; 3] = [
             },
             Word {
                 name: "WORKERS",
-                help: "Threads that play the states of a layer, 1 to 16: 1 if not given",
+                help: "How many threads share the work, 1 to 16: 1 if not given",
                 kind: WordKind::NumberFlag {
                     flag: "workers",
                     least: 1,
@@ -387,10 +399,35 @@ static NEXT_SUBCOMMANDS: [Subcommand; 3] = [
             },
             Word {
                 name: "REPORT",
-                help: "The new file for a line for each layer and the verdict",
+                help: "A new file for the lines that standard error gets",
                 kind: WordKind::Flag {
                     flag: "report",
                     other: "GOAL",
+                },
+            },
+        ],
+    },
+    Subcommand {
+        name: "verify",
+        usage: "tas verify [OPTIONS] < MANIFEST",
+        tip: Some(
+            "the manifest is read from standard input: tas verify --carts roms < movies.manifest",
+        ),
+        about: "Plays many movies and says which of them still play as their digests say",
+        help: VERIFY_HELP,
+        words: &[
+            Word {
+                name: "DIR",
+                help: "The directory in which cartridges are found by their SHA-256",
+                kind: WordKind::LoneFlag { flag: "carts" },
+            },
+            Word {
+                name: "WORKERS",
+                help: "How many threads play the movies, 1 to 16: 1 if not given",
+                kind: WordKind::NumberFlag {
+                    flag: "workers",
+                    least: 1,
+                    most: MAX_WORKERS,
                 },
             },
         ],
@@ -488,6 +525,11 @@ static LATER_SUBCOMMANDS: [Subcommand; 5] = [
                 name: "MOVIE",
                 help: "The file with the text of a movie to start from",
                 kind: WordKind::OptionalFile,
+            },
+            Word {
+                name: "JOURNAL",
+                help: "A new file that gets each edit before it is answered, for 'tas recover'",
+                kind: WordKind::LoneFlag { flag: "journal" },
             },
             LEFT,
         ],

@@ -33,10 +33,13 @@ pub const DEFAULT_STATES: u32 = 100_000;
 /// The default of N of a search: for how many frames a choice is held.
 pub const DEFAULT_HOLD: u32 = 1;
 
+/// The most parts of a search's space.
+pub const MAX_PARTS: usize = 1_000_000;
+
 /// The greatest number of a line of a journal that can be named.
 pub const MAX_LINE: u32 = u32::MAX;
 
-/// The default of WORKERS of a search.
+/// The default of WORKERS of a search and of a verification.
 pub const DEFAULT_WORKERS: u32 = 1;
 
 /// The names of a movie's two files.
@@ -46,6 +49,15 @@ pub struct MovieFiles<'a> {
     pub cart: &'a str,
     /// The name of the file with the movie's text.
     pub movie: &'a str,
+}
+
+/// A part of a search's space: which one of how many.
+#[derive(Clone, Copy)]
+pub struct PartWords {
+    /// Which one, counted from 1, up to `of`.
+    pub number: usize,
+    /// How many parts the space has, 1 to [`MAX_PARTS`].
+    pub of: usize,
 }
 
 /// The words of a search.
@@ -65,6 +77,8 @@ pub struct SearchWords<'a> {
     pub names: Option<&'a str>,
     /// For how many frames a choice is held, 1 to [`MAX_FRAMES`].
     pub hold: usize,
+    /// The part of the space that is searched; the only one of one, which is all of it, if not given.
+    pub part: PartWords,
     /// How many states of a layer are kept at most, 1 to [`MAX_STATES`].
     pub states: usize,
     /// How many workers play a layer, 1 to [`MAX_WORKERS`].
@@ -82,6 +96,15 @@ pub struct RecoveryWords<'a> {
     pub until: Option<u32>,
 }
 
+/// The words of a verification.
+#[derive(Clone, Copy)]
+pub struct VerifyWords<'a> {
+    /// The name of the directory in which cartridges are found by their SHA-256; none are if not given.
+    pub carts: Option<&'a str>,
+    /// How many workers play the movies, 1 to [`MAX_WORKERS`].
+    pub workers: usize,
+}
+
 /// What a conversation starts from.
 #[derive(Clone, Copy)]
 pub enum Start<'a> {
@@ -94,6 +117,15 @@ pub enum Start<'a> {
     },
     /// A movie.
     Movie(MovieFiles<'a>),
+}
+
+/// The words of a conversation.
+#[derive(Clone, Copy)]
+pub struct TalkWords<'a> {
+    /// What it starts from.
+    pub start: Start<'a>,
+    /// The name of the new file that its journal goes to; it has none if not given.
+    pub journal: Option<&'a str>,
 }
 
 /// The names of the two files of one of a desk's conversations.
@@ -155,6 +187,8 @@ pub enum Task<'a> {
     Recover(RecoveryWords<'a>),
     /// Search for the best inputs of some frames of the movie on standard input, and write the script that makes them.
     Search(SearchWords<'a>),
+    /// Play the movies of the manifest on standard input, and compare each with its digest.
+    Verify(VerifyWords<'a>),
     /// Draw a frame of the movie on standard input.
     Shot {
         /// The name of the cartridge's file.
@@ -238,7 +272,7 @@ pub enum Task<'a> {
     /// Run the script on standard input, from a blank cartridge with no frames, or from this movie on.
     Script(Option<MovieFiles<'a>>),
     /// Answer the lines on standard input, each before the next one is read.
-    Talk(Start<'a>),
+    Talk(TalkWords<'a>),
     /// Answer the lines of several files at once, all on one movie, and write the text of the movie that they make.
     Desk {
         /// The name of the cartridge's file of the movie to start from.

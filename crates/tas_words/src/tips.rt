@@ -53,7 +53,8 @@ fn number_kind(kind: WordKind) -> Option<bool>
 {
     match kind {
         WordKind::File | WordKind::OptionalFile | WordKind::PairedFile { .. } => Some(false),
-        WordKind::Flag { .. } | WordKind::Output | WordKind::NumberFlag { .. } => None,
+        WordKind::Flag { .. } | WordKind::LoneFlag { .. } => None,
+        WordKind::Output | WordKind::NumberFlag { .. } => None,
         WordKind::Number { .. } | WordKind::OptionalNumber { .. } => Some(true),
     }
 }

@@ -16,6 +16,7 @@ fn whole_reader(task: Task<'_>) -> Option<&'static str>
         Task::Migrate { .. } => Some("migrate"),
         Task::Recover(_) => Some("recover"),
         Task::Search(_) => Some("search"),
+        Task::Verify(_) => Some("verify"),
         Task::Shot { .. } => Some("shot"),
         Task::Film { .. } => Some("film"),
         Task::Export { .. } => Some("export"),
@@ -35,7 +36,7 @@ fn whole_reader(task: Task<'_>) -> Option<&'static str>
 /// [`Task::Talk`], which answers line by line, and for tasks that leave standard input alone.
 pub fn waits_for(task: Task<'_>) -> Option<&'static str>
     // What a task waits for is the tip of its command, if this reads standard input whole.
-    // Refused: shot_is_told_the_call_of_a_film, nothing_is_waited_for.
+    // Refused: shot_is_told_the_call_of_a_film, verification_is_told_the_call_of_a_digest, nothing_is_waited_for.
     ensures { option_map (λ text. text.now) result ≡ waits_for task.entry }
 {
     command_named(whole_reader(task)?)?.tip

@@ -6,21 +6,21 @@
 ghost use Rattle.std.specs.Prelude.{◌≡◌, IfOk, IfSome, codes, map, option_map, string_bytes};
 ghost use Rattle.clap.specs.Words.{first_of, found_of, rows_of, subcommand_rows_of};
 ghost use Rattle.tas_movie.specs.Content.{most_inputs};
-ghost use Rattle.tas_words.specs.Task.{ArePairs, HasWords, IsEvery, IsFrameWord, IsNumberOr, IsNumberWord, IsOptionalFrameWord, IsOptionalNumberWord, IsOptionalPair};
+ghost use Rattle.tas_words.specs.Task.{ArePairs, HasWords, IsEvery, IsFrameWord, IsNumberOr, IsNumberWord, IsOptionalFrameWord, IsOptionalNumberWord, IsOptionalPair, IsStart};
 ghost use Rattle.tas_words.specs.CommandLine.{HasWordsOf, IsAsked, IsCommandLine};
 
 use crate::command_line::command_line;
+use crate::parts::{part_of, refusal_of};
 use crate::{
     DEFAULT_EVERY, DEFAULT_HOLD, DEFAULT_STATES, DEFAULT_WORKERS, MAX_EVERY, MAX_FRAME_NUMBER,
     MAX_FRAMES, MAX_INSTRUCTIONS, MAX_LINE, MAX_STATES, MAX_WORKERS, MovieFiles, Order, Pair,
-    Pairs, RecoveryWords, SearchWords, Start, Task,
+    Pairs, RecoveryWords, SearchWords, Start, TalkWords, Task, VerifyWords,
 };
-use clap::error::ErrorKind;
 use clap::{ArgMatches, Command, Error};
 use std::alloc::{Allocator, Global};
 
 /// The word of this name, where there is one.
-fn word_of<'a>(matches: &ArgMatches<'a>, name: &str) -> Option<&'a str>
+pub(crate) fn word_of<'a>(matches: &ArgMatches<'a>, name: &str) -> Option<&'a str>
     ensures { option_map (λ word. word.now) result
         ≡ first_of name.now (rows_of (found_of matches.now)) }
 {
@@ -110,9 +110,20 @@ fn search_task<'a>(matches: &ArgMatches<'a>) -> Option<Task<'a>>
         choices: word_of(matches, "CHOICES"),
         names: word_of(matches, "NAMES"),
         hold: number_or(matches, "N", MAX_FRAMES, DEFAULT_HOLD)?,
+        part: part_of(matches)?,
         states: number_or(matches, "STATES", MAX_STATES, DEFAULT_STATES)?,
         workers: number_or(matches, "WORKERS", MAX_WORKERS, DEFAULT_WORKERS)?,
         report: word_of(matches, "REPORT"),
+    }))
+}
+
+/// What the words of `tas verify` ask for.
+fn verify_task<'a>(matches: &ArgMatches<'a>) -> Option<Task<'a>>
+    ensures { IfSome result (HasWords (codes "verify") (rows_of (found_of matches.now))) }
+{
+    Some(Task::Verify(VerifyWords {
+        carts: word_of(matches, "DIR"),
+        workers: number_or(matches, "WORKERS", MAX_WORKERS, DEFAULT_WORKERS)?,
     }))
 }
 
@@ -127,16 +138,26 @@ fn script_task<'a>(matches: &ArgMatches<'a>) -> Option<Task<'a>>
     }
 }
 
-/// What the words of `tas talk` ask for; `None` where they name a movie alone.
+/// What the words of `tas talk` start from; `None` where they name a movie alone.
+fn start_of<'a>(matches: &ArgMatches<'a>) -> Option<Start<'a>>
+    ensures { IfSome result (IsStart (rows_of (found_of matches.now))) }
+{
+    match (word_of(matches, "CART"), word_of(matches, "MOVIE")) {
+        (None, None) => Some(Start::Blank),
+        (Some(cart), None) => Some(Start::Cart { cart }),
+        (Some(cart), Some(movie)) => Some(Start::Movie(MovieFiles { cart, movie })),
+        (None, Some(_)) => None,
+    }
+}
+
+/// What the words of `tas talk` ask for.
 fn talk_task<'a>(matches: &ArgMatches<'a>) -> Option<Task<'a>>
     ensures { IfSome result (HasWords (codes "talk") (rows_of (found_of matches.now))) }
 {
-    match (word_of(matches, "CART"), word_of(matches, "MOVIE")) {
-        (None, None) => Some(Task::Talk(Start::Blank)),
-        (Some(cart), None) => Some(Task::Talk(Start::Cart { cart })),
-        (Some(cart), Some(movie)) => Some(Task::Talk(Start::Movie(MovieFiles { cart, movie }))),
-        (None, Some(_)) => None,
-    }
+    Some(Task::Talk(TalkWords {
+        start: start_of(matches)?,
+        journal: word_of(matches, "JOURNAL"),
+    }))
 }
 
 /// The pair of these names; `Some(None)` where there is none, and `None` where one of them is alone.
@@ -201,6 +222,7 @@ fn text_task<'a>(name: &str, words: &ArgMatches<'a>) -> Option<Task<'a>>
             until: optional_number_of(words, "LINE", 1, MAX_LINE)?,
         })),
         "search" => search_task(words),
+        "verify" => verify_task(words),
         "edit" => Some(Task::Edit {
             cart: word_of(words, "CART")?,
             script: word_of(words, "SCRIPT")?,
@@ -285,6 +307,7 @@ fn order_of<'a>(matches: &ArgMatches<'a>) -> Option<Order<'a>>
 
 /// What the words ask of this command line.
 fn order_by<'a, A: Allocator>(
+    global: Global,
     line: &mut Command<'a>,
     words: &'a [String<A>],
 ) -> Result<Order<'a>, Error>
@@ -295,8 +318,7 @@ fn order_by<'a, A: Allocator>(
     let matches = line.try_get_matches_from_mut(words)?;
     match order_of(&matches) {
         Some(order) => Ok(order),
-        // Not expected: clap has met the command's rules. Its clauses say so of the command's name alone, and of words that it `takes`.
-        None => Err(line.error(ErrorKind::InvalidSubcommand, "no such command")?),
+        None => Err(refusal_of(global, line, &matches)?),
     }
 }
 
@@ -315,18 +337,21 @@ pub fn read_words<'a, A: Allocator>(
     // The task's files and numbers are the words of that command, by their names, as clap's own definition finds them
     // after it; a number is read in decimal digits, before which there may be a plus. What may be left out is missing
     // in the task exactly where it is in the words, as a pair of a desk's files, of which both names are there or
-    // none; then EVERY of `digest` is 600, and of `search` N is 1, STATES 100,000 and WORKERS 1.
+    // none; then EVERY of `digest` is 600, WORKERS is 1, and of `search` N is 1, STATES 100,000 and K/N 1/1. The two
+    // numbers of K/N have neither signs nor leading zeros.
     // Refused: script_is_the_cartridges_file*, half_of_the_frame_is_asked*, film_starts_at_its_end*,
     // number_that_is_said_is_left_out*, every_is_600_whatever_is_said,
     // digest_is_of_single_frames_where_nothing_is_said*, second_movie_is_left_out*, names_file_is_the_choices_file,
     // states_are_the_frames_of_a_choice, line_of_until_is_left_out, search_goes_one_frame_far*, files_of_a_script_are_swapped,
-    // conversation_over_a_movie_begins_without_it, movie_of_a_desk_is_its_cartridge, names_of_a_pair_are_swapped,
-    // answers_without_lines_are_left_out, first_names_of_two_pairs_are_swapped, seventh_pair_is_read_twice.
+    // conversation_over_a_movie_begins_without_it, conversation_has_no_journal, movie_of_a_desk_is_its_cartridge, names_of_a_pair_are_swapped,
+    // answers_without_lines_are_left_out, first_names_of_two_pairs_are_swapped, seventh_pair_is_read_twice,
+    // part_0_is_read, part_past_the_last_is_read, last_part_is_refused, numbers_of_a_part_are_swapped,
+    // part_that_is_said_is_left_out*, more_than_a_million_parts_are_read*, directory_of_cartridges_is_left_out.
     // A command's output replaces the file FILE exactly where the words name one after `-o` or `--output`.
     // Refused: file_of_the_output_is_left_out, output_has_another_flag.
     ensures { IfOk result
         (λ order. IsAsked (map string_bytes words.entry.now) order.task order.output) }
 {
     let mut line = command_line(global)?;
-    order_by(&mut line, words)
+    order_by(global, &mut line, words)
 }

@@ -51,7 +51,10 @@ pub fn talk_noted<N: Name, W: CloseOnDrop, R: Wait, J: JournalFile>(
     seat: &mut Seat<N>,
     file: J,
 ) -> Result<(Vec<u8>, J)> {
-    let mut journal = Journal::begin(alloc, file, &Movie::blank(alloc)?, 0)?; // the journal's head
+    let mut journal = match Journal::begin(alloc, file, &Movie::blank(alloc)?, 0) {
+        Ok(journal) => journal, // the file has the journal's head
+        Err((_, fault)) => bail!("{fault}"),
+    };
     let mut lines = b"insert 0 1 R.... ..... .....\nquit\n".as_slice();
     let mut out = Vec::new(alloc);
     converse_noted(rt, alloc, desk, seat, &mut journal, &mut lines, &mut out)?;

@@ -15,4 +15,5 @@ pub mod talks;
 #[cfg(test)]
 mod tests;
 pub mod texts;
+pub mod verifies;
 pub mod words;

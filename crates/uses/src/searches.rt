@@ -4,12 +4,13 @@ use anyhow::{Context, Result};
 use std::alloc::Global;
 use std::io::sink;
 use std::thread::Threads;
+use std::time::Clock;
 use tas_movie::Movie;
-use tas_search::{Found, SearchRange, read_goal, read_names, search_movie};
+use tas_search::{Found, SearchRange, SpacePart, read_goal, read_names, search_movie};
 use vcs_inputs::Input;
 
 /// The shortest sequence of inputs, from a frame on, after which the byte at 80 is `value`: nothing, right or left in each frame.
-pub fn shortest_to<R: Threads + Sync>(
+pub fn shortest_to<R: Threads + Clock + Sync>(
     rt: &R,
     alloc: Global,
     movie: &Movie,
@@ -35,6 +36,7 @@ pub fn shortest_to<R: Threads + Sync>(
         hold: 1,
         states: 1_000_000,
         workers: 4,
+        part: SpacePart::whole(),
     };
     // Beside it come the changes that write it into the movie. Nobody reads the report here.
     let (found, _) = search_movie(

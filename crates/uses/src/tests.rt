@@ -12,6 +12,7 @@ use crate::searches::shortest_to;
 use crate::sessions::edit_alone;
 use crate::talks::answers;
 use crate::texts::{commands, digits_of_30, edit_line, numbers, reply, request, word_and_rest};
+use crate::verifies::are_same;
 use crate::words::frame_of_shot;
 use anyhow::Result;
 use std::marker::Brand;
@@ -134,6 +135,21 @@ fn a_search(rt: HostRuntime) -> Result<()> {
         panic!(rt; "none was found")
     };
     assert_eq!(rt; choices.as_slice(), [1].as_slice());
+    Ok(())
+}
+
+#[test]
+fn movies_of_a_manifest(rt: HostRuntime) -> Result<()> {
+    let mut lines = Vec::new(rt.alloc());
+    assert!(rt;
+        !are_same(
+            &rt,
+            b"no.movie no.bin no.digest # none is there\n",
+            &mut lines
+        )?
+    );
+    let wanted = b"no.movie: movie not found\n0 of 1 ok\n";
+    assert_eq!(rt; lines.as_slice(), wanted.as_slice());
     Ok(())
 }
 

@@ -14,10 +14,10 @@ pub record HasCome {Bus Content Held : Type 0} (d : Device Content) (content_of 
   pub ready : Ready bus
   pub fixed : held bus ≡ held start
 
-module _ {Bus Content Held : Type 0} {d : Device Content} {content_of : Bus → Content} {Settles : Bus → Bus → Bool → Type 0} {Ready : Bus → Type 0} {held : Bus → Held}
+module _ {Bus Content Held : Type 0} {d : Device Content} {content_of : Bus → Content} {Settles : Bus → Bus → Bool → Type 0} {is_watched : Bus → ℕ → Bool} {Ready : Bus → Type 0} {held : Bus → Held}
     {s : Settling Content} {most : ℕ} {first : Regs} {start : Bus} {r q : Regs} {bus after : Bus} {over : Bool} {halt halt' : Option Halt}
-    (settles : SettlesBy content_of Settles s) (ends : (e : RunEnd Content) × (run_within d s most first (content_of start) ≡ Some e))
-    (here : HasCome d content_of Ready held s most first start r bus halt) (led : IsLedTo d content_of Settles Ready held r bus over q after halt') where
+    (settles : SettlesBy d content_of Settles is_watched s) (ends : (e : RunEnd Content) × (run_within d s most first (content_of start) ≡ Some e))
+    (here : HasCome d content_of Ready held s most first start r bus halt) (led : IsLedTo d content_of Settles is_watched Ready held r bus over q after halt') where
   -- the run goes on from where an instruction led
   pub comes_on : over ≡ false → HasCome d content_of Ready held s most first start q after halt'
   unfolding Leads

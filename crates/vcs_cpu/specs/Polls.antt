@@ -38,3 +38,8 @@ module _ {Bus Content : Type 0} (d : Device Content) (content_of : Bus → Conte
     pub taken : (polled_byte d poll c == 0) ≡ poll.while_zero
     pub read : Rests (after_poll_read d poll c)
     pub branch : Rests (after_poll d poll c)
+
+-- none of the addresses that a poll reads is watched
+pub record IsPollUnwatched (poll : Poll) (is_watched : ℕ → Bool) : Type 0 where
+  pub code : (k : ℕ) → k < 5 → is_watched (address_after poll.pc k) ≡ false
+  pub byte : is_watched poll.address ≡ false

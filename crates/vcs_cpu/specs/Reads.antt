@@ -1,6 +1,7 @@
 -- The addresses that an instruction reads, from its opcode to the last byte that it pulls.
-use Rattle.std.specs.Prelude.{ℕ, ◌+◌, ◌*◌, ◌/◌, ◌%◌, List, [], ◌∷◌, ◌++◌, Option, Some, None}
+use Rattle.std.specs.Prelude.{◌≡◌, ◌<◌, ℕ, ◌+◌, ◌*◌, ◌/◌, ◌%◌, Bool, false, List, [], ◌∷◌, ◌++◌, Option, Some, None}
 use Rattle.vcs_cpu.specs.declared.regs.Regs.{Regs}
+use Rattle.vcs_cpu.specs.declared.op.Op.{Op}
 use Rattle.vcs_cpu.specs.declared.op.Mode.{Mode}
 use Rattle.vcs_cpu.specs.declared.op.Mode.TheVariants as mode
 use Rattle.vcs_cpu.specs.Operands.{address_after, operand_byte_at, operand_word_at, operand_of_mode}
@@ -40,11 +41,19 @@ finding_addresses mode.IndexedIndirect r m = byte_address r ++ pointer_addresses
 finding_addresses mode.IndirectIndexed r m = byte_address r ++ pointer_addresses (operand_byte_at r.pc m)
 finding_addresses mode.Vector r m = 0xFFFE ∷ 0xFFFF ∷ []
 
--- the opcode is read, then what finds the operand, then operands are read and bytes pulled; without a row the opcode alone
+-- the opcode is read, then what finds the operand, then operands are read and bytes pulled
+abbrev pub addresses_of : Op → Mode → Regs → (ℕ → ℕ) → List ℕ
+addresses_of o mode r m = r.pc ∷ finding_addresses mode r m ++ read_addresses o (operand_of_mode mode r m) r
+
+-- without a row the opcode alone
 abbrev pub addresses_of_row : Option Row → Regs → (ℕ → ℕ) → List ℕ
 addresses_of_row None r m = r.pc ∷ []
-addresses_of_row (Some row) r m = r.pc ∷ finding_addresses row.mode r m ++ read_addresses row.op (operand_of_mode row.mode r m) r
+addresses_of_row (Some row) r m = addresses_of row.op row.mode r m
 
 -- all addresses that the instruction at r.pc reads
 unfoldable pub addresses_read : Regs → (ℕ → ℕ) → List ℕ
 addresses_read r m = addresses_of_row (row_of (m r.pc)) r m
+
+-- none of the three bytes of code from an address on is watched
+abbrev pub IsCodeUnwatched : (ℕ → Bool) → ℕ → Type 0
+IsCodeUnwatched is_watched pc = (k : ℕ) → k < 3 → is_watched (address_after pc k) ≡ false

@@ -7,6 +7,7 @@ use crate::addressing::{
 };
 use crate::bus::Bus;
 use crate::code::{operand_byte, operand_word};
+use crate::op::Mode;
 use crate::regs::Regs;
 
 /// There is no operand.
@@ -17,6 +18,11 @@ impl Addressing for Implied {
     ghost use Rattle.vcs_cpu.specs.declared.op.Mode.TheVariants as mode;
 
     ghost mode = { λ m. mode.Implied };
+
+    #[inline(always)]
+    fn as_mode(self) -> Mode {
+        Mode::Implied
+    }
 
     #[inline(always)]
     fn locate<B: Bus>(self, _code: u32, pc: u16, _regs: &Regs, _bus: &B) -> (Operand, u16) {
@@ -34,6 +40,11 @@ impl Addressing for Accumulator {
     ghost mode = { λ m. mode.Accumulator };
 
     #[inline(always)]
+    fn as_mode(self) -> Mode {
+        Mode::Accumulator
+    }
+
+    #[inline(always)]
     fn locate<B: Bus>(self, _code: u32, pc: u16, _regs: &Regs, _bus: &B) -> (Operand, u16) {
         (Operand::Accumulator, pc.wrapping_add(1))
     }
@@ -47,6 +58,11 @@ impl Addressing for Immediate {
     ghost use Rattle.vcs_cpu.specs.declared.op.Mode.TheVariants as mode;
 
     ghost mode = { λ m. mode.Immediate };
+
+    #[inline(always)]
+    fn as_mode(self) -> Mode {
+        Mode::Immediate
+    }
 
     #[inline(always)]
     fn locate<B: Bus>(self, code: u32, pc: u16, _regs: &Regs, bus: &B) -> (Operand, u16) {
@@ -67,6 +83,11 @@ impl Addressing for ZeroPage {
     ghost mode = { λ m. mode.ZeroPage };
 
     #[inline(always)]
+    fn as_mode(self) -> Mode {
+        Mode::ZeroPage
+    }
+
+    #[inline(always)]
     fn locate<B: Bus>(self, code: u32, pc: u16, _regs: &Regs, bus: &B) -> (Operand, u16) {
         (at(operand_byte(code, pc, bus) as u16), pc.wrapping_add(2))
     }
@@ -80,6 +101,11 @@ impl Addressing for ZeroPageX {
     ghost use Rattle.vcs_cpu.specs.declared.op.Mode.TheVariants as mode;
 
     ghost mode = { λ m. mode.ZeroPageX };
+
+    #[inline(always)]
+    fn as_mode(self) -> Mode {
+        Mode::ZeroPageX
+    }
 
     #[inline(always)]
     fn locate<B: Bus>(self, code: u32, pc: u16, regs: &Regs, bus: &B) -> (Operand, u16) {
@@ -98,6 +124,11 @@ impl Addressing for ZeroPageY {
     ghost mode = { λ m. mode.ZeroPageY };
 
     #[inline(always)]
+    fn as_mode(self) -> Mode {
+        Mode::ZeroPageY
+    }
+
+    #[inline(always)]
     fn locate<B: Bus>(self, code: u32, pc: u16, regs: &Regs, bus: &B) -> (Operand, u16) {
         let zero = operand_byte(code, pc, bus).wrapping_add(regs.y);
         (at(zero as u16), pc.wrapping_add(2))
@@ -114,6 +145,11 @@ impl Addressing for Absolute {
     ghost mode = { λ m. mode.Absolute };
 
     #[inline(always)]
+    fn as_mode(self) -> Mode {
+        Mode::Absolute
+    }
+
+    #[inline(always)]
     fn locate<B: Bus>(self, code: u32, pc: u16, _regs: &Regs, bus: &B) -> (Operand, u16) {
         (at(operand_word(code, pc, bus)), pc.wrapping_add(3))
     }
@@ -127,6 +163,11 @@ impl Addressing for AbsoluteX {
     ghost use Rattle.vcs_cpu.specs.declared.op.Mode.TheVariants as mode;
 
     ghost mode = { λ m. mode.AbsoluteX };
+
+    #[inline(always)]
+    fn as_mode(self) -> Mode {
+        Mode::AbsoluteX
+    }
 
     #[inline(always)]
     fn locate<B: Bus>(self, code: u32, pc: u16, regs: &Regs, bus: &B) -> (Operand, u16) {
@@ -147,6 +188,11 @@ impl Addressing for AbsoluteY {
     ghost mode = { λ m. mode.AbsoluteY };
 
     #[inline(always)]
+    fn as_mode(self) -> Mode {
+        Mode::AbsoluteY
+    }
+
+    #[inline(always)]
     fn locate<B: Bus>(self, code: u32, pc: u16, regs: &Regs, bus: &B) -> (Operand, u16) {
         (
             index(operand_word(code, pc, bus), regs.y),
@@ -165,6 +211,11 @@ impl Addressing for Indirect {
     ghost mode = { λ m. mode.Indirect };
 
     #[inline(always)]
+    fn as_mode(self) -> Mode {
+        Mode::Indirect
+    }
+
+    #[inline(always)]
     fn locate<B: Bus>(self, code: u32, pc: u16, _regs: &Regs, bus: &B) -> (Operand, u16) {
         let pointer = operand_word(code, pc, bus);
         (at(read_jump_pointer(pointer, bus)), pc.wrapping_add(3))
@@ -181,6 +232,11 @@ impl Addressing for IndexedIndirect {
     ghost mode = { λ m. mode.IndexedIndirect };
 
     #[inline(always)]
+    fn as_mode(self) -> Mode {
+        Mode::IndexedIndirect
+    }
+
+    #[inline(always)]
     fn locate<B: Bus>(self, code: u32, pc: u16, regs: &Regs, bus: &B) -> (Operand, u16) {
         let zero = operand_byte(code, pc, bus).wrapping_add(regs.x);
         (at(read_zero_page_pointer(zero, bus)), pc.wrapping_add(2))
@@ -195,6 +251,11 @@ impl Addressing for IndirectIndexed {
     ghost use Rattle.vcs_cpu.specs.declared.op.Mode.TheVariants as mode;
 
     ghost mode = { λ m. mode.IndirectIndexed };
+
+    #[inline(always)]
+    fn as_mode(self) -> Mode {
+        Mode::IndirectIndexed
+    }
 
     #[inline(always)]
     fn locate<B: Bus>(self, code: u32, pc: u16, regs: &Regs, bus: &B) -> (Operand, u16) {
@@ -216,6 +277,11 @@ impl Addressing for Relative {
     ghost mode = { λ m. mode.Relative };
 
     #[inline(always)]
+    fn as_mode(self) -> Mode {
+        Mode::Relative
+    }
+
+    #[inline(always)]
     fn locate<B: Bus>(self, code: u32, pc: u16, _regs: &Regs, bus: &B) -> (Operand, u16) {
         let offset = operand_byte(code, pc, bus);
         let next = pc.wrapping_add(2);
@@ -231,6 +297,11 @@ impl Addressing for Vector {
     ghost use Rattle.vcs_cpu.specs.declared.op.Mode.TheVariants as mode;
 
     ghost mode = { λ m. mode.Vector };
+
+    #[inline(always)]
+    fn as_mode(self) -> Mode {
+        Mode::Vector
+    }
 
     #[inline(always)]
     fn locate<B: Bus>(self, _code: u32, pc: u16, _regs: &Regs, bus: &B) -> (Operand, u16) {

@@ -27,6 +27,10 @@ pub(crate) trait Operation: Copy {
     /// The operation.
     ghost op: { Self → Op };
 
+    /// The operation as an [`Op`].
+    fn as_op(self) -> Op
+        ensures { result ≡ op self };
+
     /// The CPU cycles that a crossed page or a taken branch adds; `crossing` says whether a crossed page
     /// adds one where the operation is no branch.
     fn extra_cycles(self, crossing: bool, operand: Operand, regs: &Regs) -> u8
@@ -48,6 +52,11 @@ impl Operation for Read {
     ghost op = { λ o. op.Read o };
 
     #[inline(always)]
+    fn as_op(self) -> Op {
+        Op::Read(self)
+    }
+
+    #[inline(always)]
     fn extra_cycles(self, crossing: bool, operand: Operand, _regs: &Regs) -> u8 {
         crossing_cycles(crossing, operand)
     }
@@ -63,6 +72,11 @@ impl Operation for Store {
     ghost use Rattle.vcs_cpu.specs.declared.op.Op.TheVariants as op;
 
     ghost op = { λ o. op.Store o };
+
+    #[inline(always)]
+    fn as_op(self) -> Op {
+        Op::Store(self)
+    }
 
     #[inline(always)]
     fn extra_cycles(self, crossing: bool, operand: Operand, _regs: &Regs) -> u8 {
@@ -81,6 +95,11 @@ impl Operation for Modify {
     ghost op = { λ o. op.Modify o };
 
     #[inline(always)]
+    fn as_op(self) -> Op {
+        Op::Modify(self)
+    }
+
+    #[inline(always)]
     fn extra_cycles(self, crossing: bool, operand: Operand, _regs: &Regs) -> u8 {
         crossing_cycles(crossing, operand)
     }
@@ -97,6 +116,11 @@ impl Operation for Implied {
     ghost op = { λ o. op.Implied o };
 
     #[inline(always)]
+    fn as_op(self) -> Op {
+        Op::Implied(self)
+    }
+
+    #[inline(always)]
     fn extra_cycles(self, crossing: bool, operand: Operand, _regs: &Regs) -> u8 {
         crossing_cycles(crossing, operand)
     }
@@ -111,6 +135,11 @@ impl Operation for Branch {
     ghost use Rattle.vcs_cpu.specs.declared.op.Op.TheVariants as op;
 
     ghost op = { λ o. op.Branch o };
+
+    #[inline(always)]
+    fn as_op(self) -> Op {
+        Op::Branch(self)
+    }
 
     #[inline(always)]
     fn extra_cycles(self, _crossing: bool, operand: Operand, regs: &Regs) -> u8 {
@@ -135,6 +164,11 @@ impl Operation for Jmp {
     ghost op = { λ o. op.Jmp };
 
     #[inline(always)]
+    fn as_op(self) -> Op {
+        Op::Jmp
+    }
+
+    #[inline(always)]
     fn extra_cycles(self, crossing: bool, operand: Operand, _regs: &Regs) -> u8 {
         crossing_cycles(crossing, operand)
     }
@@ -153,6 +187,11 @@ impl Operation for Jsr {
     ghost use Rattle.vcs_cpu.specs.declared.op.Op.TheVariants as op;
 
     ghost op = { λ o. op.Jsr };
+
+    #[inline(always)]
+    fn as_op(self) -> Op {
+        Op::Jsr
+    }
 
     #[inline(always)]
     fn extra_cycles(self, crossing: bool, operand: Operand, _regs: &Regs) -> u8 {
@@ -175,6 +214,11 @@ impl Operation for Rts {
     ghost op = { λ o. op.Rts };
 
     #[inline(always)]
+    fn as_op(self) -> Op {
+        Op::Rts
+    }
+
+    #[inline(always)]
     fn extra_cycles(self, crossing: bool, operand: Operand, _regs: &Regs) -> u8 {
         crossing_cycles(crossing, operand)
     }
@@ -193,6 +237,11 @@ impl Operation for Pha {
     ghost use Rattle.vcs_cpu.specs.declared.op.Op.TheVariants as op;
 
     ghost op = { λ o. op.Pha };
+
+    #[inline(always)]
+    fn as_op(self) -> Op {
+        Op::Pha
+    }
 
     #[inline(always)]
     fn extra_cycles(self, crossing: bool, operand: Operand, _regs: &Regs) -> u8 {
@@ -215,6 +264,11 @@ impl Operation for Pla {
     ghost op = { λ o. op.Pla };
 
     #[inline(always)]
+    fn as_op(self) -> Op {
+        Op::Pla
+    }
+
+    #[inline(always)]
     fn extra_cycles(self, crossing: bool, operand: Operand, _regs: &Regs) -> u8 {
         crossing_cycles(crossing, operand)
     }
@@ -228,6 +282,11 @@ impl Operation for Pla {
 
 impl Operation for Op {
     ghost op = { λ o. o };
+
+    #[inline(always)]
+    fn as_op(self) -> Op {
+        self
+    }
 
     #[inline(always)]
     fn extra_cycles(self, crossing: bool, operand: Operand, regs: &Regs) -> u8 {

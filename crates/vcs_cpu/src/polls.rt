@@ -75,7 +75,7 @@ fn pass_polls<B: Settle>(code: u32, pc: u16, bus: &mut B) -> (u32, u8)
     requires ready { B.Ready bus.old }
     ensures none { result.0 ≡ 0 → B.content bus.new ≡ B.content bus.old }
     ensures some { (s : Settling B.Content) (most : ℕ) (regs : Regs) → regs.pc ≡ pc
-        → 0 < result.0 → SettlesBy B.content B.Settles s
+        → 0 < result.0 → SettlesBy B.device B.content B.Settles B.is_watched s
         → Leads B.device s most regs (B.content bus.old) (after_load_a regs result.1)
         (B.content bus.new) }
     ensures ready { B.Ready bus.new }
@@ -95,7 +95,7 @@ fn pass_polls_at<B: Settle>(code: u32, pc: u16, bus: &mut B) -> (u32, u8)
     requires ready { B.Ready bus.old }
     ensures none { result.0 ≡ 0 → B.content bus.new ≡ B.content bus.old }
     ensures some { (s : Settling B.Content) (most : ℕ) (regs : Regs) → regs.pc ≡ pc
-        → 0 < result.0 → SettlesBy B.content B.Settles s
+        → 0 < result.0 → SettlesBy B.device B.content B.Settles B.is_watched s
         → Leads B.device s most regs (B.content bus.old) (after_load_a regs result.1)
         (B.content bus.new) }
     ensures ready { B.Ready bus.new }
@@ -128,8 +128,8 @@ pub(crate) fn go_on_by_load<B: Settle>(
 ) -> bool
     requires next { IsNext B.device B.content B.Ready opcode code regs.old bus.old halt.now }
     requires lda { opcode ≡ 0xad }
-    ensures { IsLedTo B.device B.content B.Settles B.Ready B.fixed regs.old bus.old result regs.new
-        bus.new halt.now }
+    ensures { IsLedTo B.device B.content B.Settles B.is_watched B.Ready B.fixed regs.old bus.old result
+        regs.new bus.new halt.now }
 {
     let (polls, byte) = pass_polls(code, regs.pc, bus);
     if polls > 0 {

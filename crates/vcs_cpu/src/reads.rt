@@ -1,23 +1,32 @@
 //! What an instruction reads.
 #![tactic(auto)]
 
-ghost use Rattle.std.specs.Prelude.{◌≡◌, ℕ, Bool, ◌∷◌, []};
+ghost use Rattle.std.specs.Prelude.{◌≡◌, ℕ, Bool, false, ◌∷◌, []};
 ghost use Rattle.std.specs.List.{list_any};
 ghost use Rattle.vcs_cpu.specs.Effects.{operand_addresses, read_addresses, pull_address};
 ghost use Rattle.vcs_cpu.specs.Operands.{IsCode};
-ghost use Rattle.vcs_cpu.specs.Reads.{addresses_read, finding_addresses, jump_addresses, pointer_addresses, word_addresses};
+ghost use Rattle.vcs_cpu.specs.Reads.{IsCodeUnwatched, addresses_of, jump_addresses, pointer_addresses};
+ghost use Rattle.vcs_cpu.specs.Inside.Parts.{code_addresses, pointing_addresses};
 
 use crate::addressing::{Addressing, Operand};
 use crate::bus::Bus;
-use crate::code::{opcode_of, operand_byte, operand_word};
+use crate::code::{operand_byte, operand_word};
 use crate::op::{Mode, Op};
-use crate::opcode::look_up;
+use crate::operation::Operation;
 use crate::regs::Regs;
 
-/// A bus some of whose addresses are watched for reads.
+/// A bus some of whose addresses are watched for reads: a run stops before an instruction that reads there.
 pub trait Watch: Bus {
     /// Whether an address of a bus is watched.
     ghost is_watched: { Self → ℕ → Bool };
+
+    /// Whether any address is watched. `true` proves nothing.
+    fn watches(&self) -> bool
+        ensures { result ≡ false → (address : ℕ) → is_watched self.now address ≡ false };
+
+    /// Whether one of three bytes of code from an address on may be watched. `true` proves nothing.
+    fn may_watch_code(&self, pc: u16) -> bool
+        ensures { result ≡ false → IsCodeUnwatched (is_watched self.now) pc };
 
     /// Whether an address is watched.
     fn is_watched(&self, address: u16) -> bool
@@ -25,20 +34,47 @@ pub trait Watch: Bus {
 }
 
 /// Whether one of two addresses is watched.
+#[inline(always)]
 fn is_either_watched<B: Watch>(first: u16, second: u16, bus: &B) -> bool
     ensures { result ≡ list_any (B.is_watched bus.now) (first ∷ second ∷ []) }
 {
     bus.is_watched(first) || bus.is_watched(second)
 }
 
-/// Whether one of the two bytes after the opcode is watched.
-fn is_word_watched<B: Watch>(regs: &Regs, bus: &B) -> bool
-    ensures { result ≡ list_any (B.is_watched bus.now) (word_addresses regs.now) }
+/// Whether a byte of code is watched, of an instruction at `pc`: its opcode or an operand byte after it.
+#[inline(always)]
+fn is_code_watched<B: Watch>(mode: Mode, pc: u16, bus: &B) -> bool
+    ensures { result ≡ list_any (B.is_watched bus.now) (code_addresses mode pc) }
 {
-    is_either_watched(regs.pc.wrapping_add(1), regs.pc.wrapping_add(2), bus)
+    if bus.may_watch_code(pc) {
+        return is_code_byte_watched(mode, pc, bus);
+    }
+    false
+}
+
+/// The same, byte by byte.
+#[inline(never)]
+fn is_code_byte_watched<B: Watch>(mode: Mode, pc: u16, bus: &B) -> bool
+    ensures { result ≡ list_any (B.is_watched bus.now) (code_addresses mode pc) }
+{
+    let first = bus.is_watched(pc);
+    match mode {
+        Mode::Implied | Mode::Accumulator | Mode::Vector => first,
+        Mode::Immediate
+        | Mode::ZeroPage
+        | Mode::ZeroPageX
+        | Mode::ZeroPageY
+        | Mode::IndexedIndirect
+        | Mode::IndirectIndexed
+        | Mode::Relative => first || bus.is_watched(pc.wrapping_add(1)),
+        Mode::Absolute | Mode::AbsoluteX | Mode::AbsoluteY | Mode::Indirect => {
+            first || is_either_watched(pc.wrapping_add(1), pc.wrapping_add(2), bus)
+        }
+    }
 }
 
 /// Whether a byte of the pointer on page 0 is watched.
+#[inline(always)]
 fn is_pointer_watched<B: Watch>(cell: u8, bus: &B) -> bool
     ensures { result ≡ list_any (B.is_watched bus.now) (pointer_addresses cell) }
 {
@@ -46,6 +82,7 @@ fn is_pointer_watched<B: Watch>(cell: u8, bus: &B) -> bool
 }
 
 /// Whether a byte of an indirect jump's pointer is watched.
+#[inline(always)]
 fn is_jump_pointer_watched<B: Watch>(address: u16, bus: &B) -> bool
     ensures { result ≡ list_any (B.is_watched bus.now) (jump_addresses address) }
 {
@@ -53,36 +90,37 @@ fn is_jump_pointer_watched<B: Watch>(address: u16, bus: &B) -> bool
     is_either_watched(address, second, bus)
 }
 
-/// Whether an operand or pointer byte is watched, of an instruction at the program counter whose code is given.
-fn is_finding_watched<B: Watch>(mode: Mode, code: u32, regs: &Regs, bus: &B) -> bool
+/// Whether a byte of the pointer to the operand is watched, of an instruction at the program counter whose code is given.
+#[inline(always)]
+fn is_pointing_watched<B: Watch>(mode: Mode, code: u32, regs: &Regs, bus: &B) -> bool
     requires { IsCode code regs.now.pc (B.device.byte_at (B.content bus.now)) }
     ensures { result
         ≡ list_any (B.is_watched bus.now)
-        (finding_addresses mode regs.now (B.device.byte_at (B.content bus.now))) }
+        (pointing_addresses mode regs.now (B.device.byte_at (B.content bus.now))) }
 {
     let pc = regs.pc;
-    let after = pc.wrapping_add(1);
     match mode {
-        Mode::Implied | Mode::Accumulator => false,
-        Mode::Immediate | Mode::ZeroPage | Mode::ZeroPageX | Mode::ZeroPageY | Mode::Relative =>
-            bus.is_watched(after),
-        Mode::Absolute | Mode::AbsoluteX | Mode::AbsoluteY => is_word_watched(regs, bus),
-        Mode::Indirect => {
-            is_word_watched(regs, bus) || is_jump_pointer_watched(operand_word(code, pc, bus), bus)
-        }
+        Mode::Indirect => is_jump_pointer_watched(operand_word(code, pc, bus), bus),
         Mode::IndexedIndirect => {
-            let cell = operand_byte(code, pc, bus).wrapping_add(regs.x);
-            bus.is_watched(after) || is_pointer_watched(cell, bus)
+            is_pointer_watched(operand_byte(code, pc, bus).wrapping_add(regs.x), bus)
         }
-        Mode::IndirectIndexed => {
-            let cell = operand_byte(code, pc, bus);
-            bus.is_watched(after) || is_pointer_watched(cell, bus)
-        }
+        Mode::IndirectIndexed => is_pointer_watched(operand_byte(code, pc, bus), bus),
         Mode::Vector => is_either_watched(0xfffe, 0xffff, bus),
+        Mode::Implied
+        | Mode::Accumulator
+        | Mode::Immediate
+        | Mode::ZeroPage
+        | Mode::ZeroPageX
+        | Mode::ZeroPageY
+        | Mode::Absolute
+        | Mode::AbsoluteX
+        | Mode::AbsoluteY
+        | Mode::Relative => false,
     }
 }
 
 /// Whether the operand is in memory and watched.
+#[inline(always)]
 fn is_operand_watched<B: Watch>(operand: Operand, bus: &B) -> bool
     ensures { result ≡ list_any (B.is_watched bus.now) (operand_addresses operand) }
 {
@@ -93,6 +131,7 @@ fn is_operand_watched<B: Watch>(operand: Operand, bus: &B) -> bool
 }
 
 /// Whether the byte is watched that is pulled after some others.
+#[inline(always)]
 fn is_pull_watched<B: Watch>(number: u8, regs: &Regs, bus: &B) -> bool
     ensures { result ≡ B.is_watched bus.now (pull_address regs.now number) }
 {
@@ -100,6 +139,7 @@ fn is_pull_watched<B: Watch>(number: u8, regs: &Regs, bus: &B) -> bool
 }
 
 /// Whether an operand or a pulled byte is watched.
+#[inline(always)]
 fn is_load_watched<B: Watch>(op: Op, operand: Operand, regs: &Regs, bus: &B) -> bool
     ensures { result ≡ list_any (B.is_watched bus.now) (read_addresses op operand regs.now) }
 {
@@ -123,22 +163,27 @@ fn is_load_watched<B: Watch>(op: Op, operand: Operand, regs: &Regs, bus: &B) -> 
     }
 }
 
-/// Whether the instruction at the program counter reads at a watched address: its opcode, its operand and
-/// pointer bytes, its operand, or what it pulls. An undocumented opcode is read alone. Nothing changes.
-pub fn reads_watched<B: Watch>(regs: &Regs, bus: &B) -> bool
-    // Refused: pull_is_not_watched, opcode_is_not_watched*, jump_pointer_is_not_watched*,
-    // changed_operand_is_not_watched*.
+/// Whether the instruction at the program counter, whose code, operation and mode are given, reads at a watched address:
+/// its opcode, its operand and pointer bytes, its operand, or what it pulls. Nothing changes.
+#[inline(always)]
+pub(crate) fn reads_watched<O: Operation, M: Addressing, B: Watch>(
+    code: u32,
+    op: O,
+    mode: M,
+    regs: &Regs,
+    bus: &B,
+) -> bool
+    requires { IsCode code regs.now.pc (B.device.byte_at (B.content bus.now)) }
     ensures { result
         ≡ list_any (B.is_watched bus.now)
-        (addresses_read regs.now (B.device.byte_at (B.content bus.now))) }
+        (addresses_of (O.op op) (M.mode mode) regs.now (B.device.byte_at (B.content bus.now))) }
 {
-    let pc = regs.pc;
-    let code = bus.fetch(pc);
-    let Some(found) = look_up(opcode_of(code, pc, bus)) else {
-        return bus.is_watched(pc);
-    };
-    let (operand, _next) = found.mode.locate(code, pc, regs, bus);
-    let finding = is_finding_watched(found.mode, code, regs, bus);
-    let load = is_load_watched(found.op, operand, regs, bus);
-    bus.is_watched(pc) | (finding | load)
+    if !bus.watches() {
+        return false;
+    }
+    let (operand, _next) = mode.locate(code, regs.pc, regs, bus);
+    let fetched = is_code_watched(mode.as_mode(), regs.pc, bus);
+    let pointing = is_pointing_watched(mode.as_mode(), code, regs, bus);
+    let load = is_load_watched(op.as_op(), operand, regs, bus);
+    (fetched | pointing) | load
 }

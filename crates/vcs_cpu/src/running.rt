@@ -28,6 +28,7 @@ use crate::op::{Branch, Implied, Modify, Read, Store};
 use crate::opcode::{Instruction, look_up};
 use crate::operation::Operation;
 use crate::polls::go_on_by_load;
+use crate::reads::reads_watched;
 use crate::regs::Regs;
 use crate::{mode, operation};
 
@@ -48,9 +49,12 @@ pub(crate) fn perform_and_settle<O: Operation, M: Addressing, B: Settle>(
     requires next { IsNext B.device B.content B.Ready opcode code regs.old bus.old halt.now }
     requires row { instruction_of opcode
         ≡ Some (record { op = O.op op; mode = M.mode mode; cycles = cycles; crossing = crossing }) }
-    ensures { IsLedTo B.device B.content B.Settles B.Ready B.fixed regs.old bus.old result regs.new
-        bus.new halt.now }
+    ensures { IsLedTo B.device B.content B.Settles B.is_watched B.Ready B.fixed regs.old bus.old result
+        regs.new bus.new halt.now }
 {
+    if reads_watched(code, op, mode, regs, bus) {
+        return true;
+    }
     perform(opcode, code, op, mode, cycles, crossing, regs, bus);
     bus.settle()
 }
@@ -66,10 +70,14 @@ fn perform_any<B: Settle>(
     halt: &mut Option<Halt>,
 ) -> bool
     requires { IsNext B.device B.content B.Ready opcode code regs.old bus.old halt.old }
-    ensures { IsLedTo B.device B.content B.Settles B.Ready B.fixed regs.old bus.old result regs.new
-        bus.new halt.new }
+    ensures { IsLedTo B.device B.content B.Settles B.is_watched B.Ready B.fixed regs.old bus.old result
+        regs.new bus.new halt.new }
 {
     let Some(found) = look_up(opcode) else {
+        // Such an opcode is read alone.
+        if bus.is_watched(regs.pc) {
+            return true;
+        }
         *halt = Some(Halt::Undocumented {
             at: regs.pc,
             opcode,
@@ -108,12 +116,13 @@ macro_rules! go_on_by_row {
 /// Executes instructions until the run is over, and returns the halt that ended it if one did.
 ///
 /// After each instruction the bus [settles](Settle::settle) what it does by itself, and says whether
-/// the run is over. A halt leaves registers and bus as they were before the undocumented opcode.
+/// the run is over. A halt leaves registers and bus as they were before the undocumented opcode. The run is over, too,
+/// before an instruction that reads at an address which the bus [watches](Watch): it isn't executed.
 /// The caller shows that the run ends within `most` instructions (`ends`), that the bus is ready for
 /// the first one (`ready`), and that the bus settles as `settling` says (`settles`). `most` is for the contract alone.
 pub fn run_until_over<B: Settle>(regs: &mut Regs, bus: &mut B, most: u32) -> Option<Halt>
     ghost settling: { Settling B.Content }
-    requires settles { SettlesBy B.content B.Settles settling }
+    requires settles { SettlesBy B.device B.content B.Settles B.is_watched settling }
     requires ready { B.Ready bus.old }
     requires ends { (e : RunEnd B.Content)
         × (run_within B.device settling most regs.old (B.content bus.old) ≡ Some e) }
@@ -121,6 +130,10 @@ pub fn run_until_over<B: Settle>(regs: &mut Regs, bus: &mut B, most: u32) -> Opt
     // A run is such instructions one after the other, with what the bus does by itself after each, up to the one after
     // which the bus says that the run is over, or to a halt, which leaves registers and content as they were.
     // Refused: run_goes_on_after_its_end, run_leaves_the_registers*.
+    // A run stops before an instruction that reads at a watched address: its opcode, an undocumented one too, its operand
+    // and pointer bytes, its operand, or what it pulls. Registers and content are those before it, and it is no halt.
+    // Refused: run_that_stops_goes_on*, undocumented_opcode_that_is_watched_halts, opcode_is_not_watched*,
+    // pull_is_not_watched, jump_pointer_is_not_watched*, changed_operand_is_not_watched*.
     // Polls that a bus lets pass at once leave registers, content and time as their instructions do one by one.
     // Refused: polled_byte_is_not_loaded, poll_by_beq_goes_on_like_one_by_bne, polls_leave_z*,
     // poll_ends_by_the_other_branch*, polls_that_cross_a_page_take_longer*.
@@ -140,7 +153,7 @@ pub fn run_until_over<B: Settle>(regs: &mut Regs, bus: &mut B, most: u32) -> Opt
 #[tactic(auto, unfolding(crate::specs::Rows::instruction_of, crate::specs::Rows::row_of))]
 fn run_by_value<B: Settle>(first: Regs, bus: &mut B, most: u32, halt: &mut Option<Halt>) -> Regs
     ghost settling: { Settling B.Content }
-    requires settles { SettlesBy B.content B.Settles settling }
+    requires settles { SettlesBy B.device B.content B.Settles B.is_watched settling }
     requires ready { B.Ready bus.old }
     requires ends { (e : RunEnd B.Content)
         × (run_within B.device settling most first (B.content bus.old) ≡ Some e) }

@@ -1,135 +1,140 @@
--- Steps whose reads are noted.
-use Rattle.std.proofs.Common.{◌≡◌, ℕ, suc, ◌<◌, Bool, true, false, not, ◌&&◌, if◌then◌else◌, List, Option, Some, None, Result, Ok, Err, ◌∙◌, ap, sym, refl, arith}
-use Rattle.std.proofs.Math.Bool.{and-true}
+-- Runs that stop before the first step that doesn't ignore the input.
+use Rattle.std.proofs.Common.{◌≡◌, ℕ, zero, suc, ◌<◌, Bool, true, false, not, ◌&&◌, ◌||◌, if◌then◌else◌, List, Option, Some, None, is_some, unwrap_or, Result, Ok, Err, ◌∙◌, ap, sym, refl, subst, arith}
+use Rattle.std.specs.List.{list_any}
 use Rattle.std.proofs.lemmas.Bool.{false≢true}
-use Rattle.vcs_cpu.specs.Steps.{Step}
+use Rattle.vcs_cpu.specs.Reads.{addresses_read}
+use Rattle.vcs_cpu.specs.Runs.{RunEnd, run_within}
+use Rattle.vcs_cpu.specs.Runs as runs
+use Rattle.vcs_cpu.specs.Steps.{Step, step_of}
 use Rattle.vcs_cpu.specs.declared.regs.Regs.{Regs}
 use Rattle.vcs_cpu.specs.declared.halt.Halt.{Halt}
 use Rattle.vcs_tia.specs.declared.chip.Tia.{Tia}
-use Rattle.vcs_tia.specs.declared.chip.Fire.{Fire}
 use Rattle.vcs_tia.specs.Tia.{latches_presses, clocks_passed, clock_of}
-use Rattle.vcs_tia.specs.Trace.{after_clocks}
-use Rattle.vcs_tia.proofs.Later.{fire-after_clocks}
 use Rattle.vcs_inputs.specs.declared.input.Input.{Input}
-use Rattle.vcs_machine.specs.declared.lag.LagStep.{LagStep}
-use Rattle.vcs_machine.specs.Bus.{Observed, nothing_seen}
-use Rattle.vcs_machine.specs.Step.{console_step}
-use Rattle.vcs_machine.specs.Frame.{FrameEnd, end_within, end_or_next, is_frame_over}
+use Rattle.vcs_machine.specs.Bus.{Observed, bus_device, board_byte_at, after_wait, nothing_seen}
+use Rattle.vcs_machine.specs.Step.{console_step, with_wait}
+use Rattle.vcs_machine.specs.Frame.{FrameEnd, EndsAt, end_within, is_frame_over, console_settling}
+use Rattle.vcs_machine.specs.Frame as frame
 use Rattle.vcs_machine.specs.Machine.{Machine, frame_start, unless_halted}
-use Rattle.vcs_machine.specs.Lag.{ignores_input, last_or_next, is_ignored_within, is_lag_frame}
-use Rattle.vcs_machine.specs.Inside.Noting.{LeadsTo, HasComeNoting}
+use Rattle.vcs_machine.specs.Lag.{shows_input, last_or_next, is_ignored_within, is_lag_frame}
+use Rattle.vcs_machine.specs.Inside.Noting.{watching, Says}
 use Rattle.vcs_machine.proofs.Endings.{as_frame_end, end_within-run, run_ends}
-use Rattle.vcs_machine.proofs.Frames.{ended, ended-same, one_end}
+use Rattle.vcs_machine.proofs.Frames.{one_end}
 
--- clocks leave VBLANK's D6
-pub latches_presses-later : (n : ℕ) (t : Tia) → latches_presses (after_clocks n t) ≡ latches_presses t
-latches_presses-later n t = ap (λ (f : Fire). f.latching) (fire-after_clocks n t)
+pub second_of : (u v : Bool) → (u || v) ≡ false → v ≡ false
+second_of true v h = cc
+second_of false v h = h
 
 module _ {Seen : Type 0} (observe : List Tia → Seen → Seen) where
-  -- the ends of a frame, and what is said of its input, by how its first step ends
-  abbrev end_by : ℕ → Regs → Observed Seen → Result (Step (Observed Seen)) Halt → Option (FrameEnd Seen)
-  end_by n r o x = end_or_next x r o (λ step. end_within observe n step.regs step.content)
+  -- ---- what the run's end says
 
-  abbrev ignored_by : ℕ → Regs → Observed Seen → Result (Step (Observed Seen)) Halt → Bool
-  ignored_by n r o x = ignores_input r o.board && last_or_next o x (λ step. is_ignored_within observe n step.regs step.content)
+  -- it is the frame's end: a halt, or a step after which the frame is over
+  abbrev is_frame_end : RunEnd (Observed Seen) → Bool
+  is_frame_end e = is_some e.halt || is_frame_over e.content.board.tia
 
-  -- a halt comes in a step's place
-  pub step-halts : (r s : Regs) (o p : Observed Seen) (halt : Halt) (ignored : Bool) → console_step observe r o ≡ Err halt → s ≡ r → p ≡ o → ignored ≡ (ignores_input r o.board && not (latches_presses o.board.tia)) →
-      LeadsTo observe r o (record { over = true; ignored = ignored; halt = Some halt }) s p
-  unfolding end_within is_ignored_within
-  step-halts r s o p halt ignored is same_regs same_content noted = record {
-    ends = λ over n. ap (end_by n r o) is ∙ ended-same r s o p (Some halt) (sym same_regs) (sym same_content);
-    last = λ over n. ap (ignored_by n r o) is ∙ sym noted;
-    goes_on = λ over n. absurd (false≢true (sym over));
-    next = λ over n. absurd (false≢true (sym over));
-  }
+  -- after a step
+  by_over : (over : Bool) (q : Regs) (y : Observed Seen) (e : RunEnd (Observed Seen)) (ends : Option (FrameEnd Seen)) (run : Option (RunEnd (Observed Seen))) (ignored : Bool) →
+      is_frame_over y.board.tia ≡ over → (over ≡ false → run ≡ Some e → Says observe ends ignored (is_frame_end e) e) → (if over then Some (record { regs = q; content = y; halt = None }) else run) ≡ Some e →
+      Says observe (if over then Some (record { regs = q; observed = y; halt = None }) else ends) (if over then not (latches_presses y.board.tia) else ignored) (is_frame_end e) e
+  by_over true q y e ends run ignored h on is =
+      subst (λ (x : RunEnd (Observed Seen)). Says observe (Some (record { regs = q; observed = y; halt = None })) (not (latches_presses y.board.tia)) (is_frame_end x) x) (ap (λ (p : Option (RunEnd (Observed Seen))). unwrap_or p e) is)
+      (record { over = λ t. (refl, refl); stopped = λ f. absurd (false≢true (sym f ∙ h)) })
+  by_over false q y e ends run ignored h on is = on refl is
 
-  -- a step after which the frame is over, or goes on
-  abbrev noted_of : Bool → Bool → Bool → LagStep
-  noted_of over ignored latches = record { over = over; ignored = ignored && not (over && latches); halt = None }
+  -- a halt, or a step
+  by_step : (x : Result (Step (Observed Seen)) Halt) (n : ℕ) (r : Regs) (o : Observed Seen) (e : RunEnd (Observed Seen)) →
+      ((q : Regs) (y : Observed Seen) → is_frame_over y.board.tia ≡ false → run_within (bus_device observe) (watching observe) n q y ≡ Some e →
+      Says observe (end_within observe n q y) (is_ignored_within observe n q y) (is_frame_end e) e) →
+      runs.end_or_next (bus_device observe) (watching observe) x r o (run_within (bus_device observe) (watching observe) n) ≡ Some e →
+      Says observe (frame.end_or_next (with_wait observe x) r o (λ (step : Step (Observed Seen)). end_within observe n step.regs step.content))
+      (last_or_next o (with_wait observe x) (λ (step : Step (Observed Seen)). is_ignored_within observe n step.regs step.content)) (is_frame_end e) e
+  by_step (Err halt) n r o e later is =
+      subst (λ (x : RunEnd (Observed Seen)). Says observe (Some (record { regs = r; observed = o; halt = Some halt })) (not (latches_presses o.board.tia)) (is_frame_end x) x) (ap (λ (p : Option (RunEnd (Observed Seen))). unwrap_or p e) is)
+      (record { over = λ t. (refl, refl); stopped = λ f. absurd (false≢true (sym f)) })
+  by_step (Ok x) n r o e later is =
+      let y = after_wait observe x.content in
+      by_over (is_frame_over y.board.tia) x.regs y e (end_within observe n x.regs y) (run_within (bus_device observe) (watching observe) n x.regs y) (is_ignored_within observe n x.regs y)
+      refl (λ h there. later x.regs y h there) is
 
-  abbrev after_step : ℕ → Regs → Observed Seen → Bool → Option (FrameEnd Seen)
-  after_step n r o over = if over then ended r o None else end_within observe n r o
+  -- a stop
+  by_stop : (stop : Bool) (r : Regs) (o : Observed Seen) (e : RunEnd (Observed Seen)) (run : Option (RunEnd (Observed Seen))) (ends : Option (FrameEnd Seen)) (ignored : Bool) →
+      is_frame_over o.board.tia ≡ false → ((f : FrameEnd Seen) → ends ≡ Some f → EndsAt observe r o f) → (run ≡ Some e → Says observe ends ignored (is_frame_end e) e) →
+      (if stop then Some (record { regs = r; content = o; halt = None }) else run) ≡ Some e → Says observe ends (not stop && ignored) (is_frame_end e) e
+  by_stop true r o e run ends ignored low here on is =
+      subst (λ (x : RunEnd (Observed Seen)). Says observe ends false (is_frame_end x) x) (ap (λ (p : Option (RunEnd (Observed Seen))). unwrap_or p e) is)
+      (record { over = λ t. absurd (false≢true (sym low ∙ t)); stopped = λ f. (refl, here) })
+  by_stop false r o e run ends ignored low here on is = on is
 
-  abbrev ignored_after : ℕ → Regs → Observed Seen → Bool → Bool → Bool
-  ignored_after n r o over latches = if over then not latches else is_ignored_within observe n r o
+  pub says : (n : ℕ) (r : Regs) (o : Observed Seen) (e : RunEnd (Observed Seen)) → is_frame_over o.board.tia ≡ false → run_within (bus_device observe) (watching observe) n r o ≡ Some e →
+      Says observe (end_within observe n r o) (is_ignored_within observe n r o) (is_frame_end e) e
+  unfolding run_within end_within is_ignored_within console_step
+  says zero r o e low is = cc
+  says (suc n) r o e low is =
+      by_stop (list_any (shows_input o.board) (addresses_read r (board_byte_at o.board))) r o e
+      (runs.end_or_next (bus_device observe) (watching observe) (step_of (bus_device observe) r o) r o (run_within (bus_device observe) (watching observe) n))
+      (frame.end_or_next (with_wait observe (step_of (bus_device observe) r o)) r o (λ (step : Step (Observed Seen)). end_within observe n step.regs step.content))
+      (last_or_next o (with_wait observe (step_of (bus_device observe) r o)) (λ (step : Step (Observed Seen)). is_ignored_within observe n step.regs step.content))
+      low (λ f h. (suc n, h)) (λ run. by_step (step_of (bus_device observe) r o) n r o e (λ q y h there. says n q y e h there) run) is
 
-  led-by : (r s : Regs) (o p : Observed Seen) (over ignored latches : Bool) →
-      ((n : ℕ) → end_within observe (suc n) r o ≡ after_step n s p over) → ((n : ℕ) → is_ignored_within observe (suc n) r o ≡ (ignored && ignored_after n s p over latches)) →
-      LeadsTo observe r o (noted_of over ignored latches) s p
-  led-by r s o p true ignored latches ends says = record {
-    ends = λ over n. ends n;
-    last = λ over n. says n;
-    goes_on = λ over n. absurd (false≢true (sym over));
-    next = λ over n. absurd (false≢true (sym over));
-  }
-  led-by r s o p false ignored latches ends says = record {
-    ends = λ over n. absurd (false≢true over);
-    last = λ over n. absurd (false≢true over);
-    goes_on = λ over n. ends n;
-    next = λ over n. says n ∙ ap (λ (b : Bool). b && is_ignored_within observe n s p) (sym (and-true ignored));
-  }
+  -- ---- the run ends, as the frame does
 
-  pub step-leads : (r : Regs) (o p : Observed Seen) (x : Step (Observed Seen)) (over ignored latches : Bool) → console_step observe r o ≡ Ok x → p ≡ x.content →
-      over ≡ is_frame_over x.content.board.tia → ignored ≡ ignores_input r o.board → latches ≡ latches_presses x.content.board.tia →
-      LeadsTo observe r o (noted_of over ignored latches) x.regs p
-  unfolding end_within is_ignored_within
-  step-leads r o p x over ignored latches is same is_over noted latching =
-      led-by r x.regs o p over ignored latches
-      (λ n. ap (end_by n r o) is ∙ ap (after_step n x.regs x.content) (sym is_over) ∙ ap (λ (y : Observed Seen). after_step n x.regs y over) (sym same))
-      (λ n. ap (ignored_by n r o) is
-      ∙ ap (λ (b : Bool). b && last_or_next o (Ok x) (λ (step : Step (Observed Seen)). is_ignored_within observe n step.regs step.content)) (sym noted)
-      ∙ ap (λ (b : Bool). ignored && ignored_after n x.regs x.content b (latches_presses x.content.board.tia)) (sym is_over)
-      ∙ ap (λ (b : Bool). ignored && ignored_after n x.regs x.content over b) (sym latching)
-      ∙ ap (λ (y : Observed Seen). ignored && ignored_after n x.regs y over latches) (sym same))
+  abbrev Some_end : Option (RunEnd (Observed Seen)) → Type 0
+  Some_end run = (e : RunEnd (Observed Seen)) × (run ≡ Some e)
 
-  -- ---- the steps so far
+  ends_by_over : (over : Bool) (z e : RunEnd (Observed Seen)) (run watched : Option (RunEnd (Observed Seen))) → (run ≡ Some e → Some_end watched) →
+      (if over then Some z else run) ≡ Some e → Some_end (if over then Some z else watched)
+  ends_by_over true z e run watched on is = (z, refl)
+  ends_by_over false z e run watched on is = on is
 
-  module _ (first : Regs) (start : Observed Seen) where
-    pub come-nowhere : HasComeNoting observe first start 12160 first start
-    come-nowhere = record { come = refl; noted = refl }
+  ends_by_step : (x : Result (Step (Observed Seen)) Halt) (n : ℕ) (r : Regs) (o : Observed Seen) (e : RunEnd (Observed Seen)) →
+      ((q : Regs) (y : Observed Seen) → run_within (bus_device observe) (console_settling observe) n q y ≡ Some e → Some_end (run_within (bus_device observe) (watching observe) n q y)) →
+      runs.end_or_next (bus_device observe) (console_settling observe) x r o (run_within (bus_device observe) (console_settling observe) n) ≡ Some e →
+      Some_end (runs.end_or_next (bus_device observe) (watching observe) x r o (run_within (bus_device observe) (watching observe) n))
+  ends_by_step (Err halt) n r o e later is = (_, refl)
+  ends_by_step (Ok x) n r o e later is =
+      let y = after_wait observe x.content in
+      ends_by_over (is_frame_over y.board.tia) (record { regs = x.regs; content = y; halt = None }) e (run_within (bus_device observe) (console_settling observe) n x.regs y)
+      (run_within (bus_device observe) (watching observe) n x.regs y) (later x.regs y) is
 
-    module _ (r s : Regs) (o p : Observed Seen) (k n : ℕ) (noted : LagStep) (come : HasComeNoting observe first start k r o) (led : LeadsTo observe r o noted s p) (more : k ≡ suc n) where
-      here : end_within observe (suc n) r o ≡ end_within observe 12160 first start
-      here = ap (λ j. end_within observe j r o) (sym more) ∙ come.come
+  ends_by_stop : (stop : Bool) (z : RunEnd (Observed Seen)) (watched : Option (RunEnd (Observed Seen))) → Some_end watched → Some_end (if stop then Some z else watched)
+  ends_by_stop true z watched end = (z, refl)
+  ends_by_stop false z watched end = end
 
-      says : is_ignored_within observe (suc n) r o ≡ is_ignored_within observe 12160 first start
-      says = ap (λ j. is_ignored_within observe j r o) (sym more) ∙ come.noted
+  pub watching_ends : (n : ℕ) (r : Regs) (o : Observed Seen) (e : RunEnd (Observed Seen)) → run_within (bus_device observe) (console_settling observe) n r o ≡ Some e →
+      Some_end (run_within (bus_device observe) (watching observe) n r o)
+  unfolding run_within
+  watching_ends zero r o e is = cc
+  watching_ends (suc n) r o e is =
+      ends_by_stop (list_any (shows_input o.board) (addresses_read r (board_byte_at o.board))) (record { regs = r; content = o; halt = None })
+      (runs.end_or_next (bus_device observe) (watching observe) (step_of (bus_device observe) r o) r o (run_within (bus_device observe) (watching observe) n))
+      (ends_by_step (step_of (bus_device observe) r o) n r o e (λ q y h. watching_ends n q y e h) is)
 
-      -- where the step ignored the input, the steps to come decide; else the frame is no lag frame whatever they are
-      says_on : (ignored : Bool) → noted.over ≡ false → noted.ignored ≡ ignored → (ignored && is_ignored_within observe n s p) ≡ is_ignored_within observe 12160 first start
-      says_on ignored on is = ap (λ (b : Bool). b && is_ignored_within observe n s p) (sym is) ∙ sym (led.next on n) ∙ says
+  -- the same where the chips have caught up
+  pub says_then : (n : ℕ) (r q : Regs) (o p later : Observed Seen) (halt : Option Halt) (ended : Bool) → is_frame_over o.board.tia ≡ false →
+      run_within (bus_device observe) (watching observe) n r o ≡ Some (record { regs = q; content = p; halt = halt }) → later ≡ p → ended ≡ (is_some halt || is_frame_over p.board.tia) →
+      Says observe (end_within observe n r o) (is_ignored_within observe n r o) ended (record { regs = q; content = later; halt = halt })
+  says_then n r q o p later halt ended low is same end =
+      subst (λ (x : Observed Seen). Says observe (end_within observe n r o) (is_ignored_within observe n r o) ended (record { regs = q; content = x; halt = halt })) (sym same)
+      (subst (λ (b : Bool). Says observe (end_within observe n r o) (is_ignored_within observe n r o) b (record { regs = q; content = p; halt = halt })) (sym end)
+      (says n r o (record { regs = q; content = p; halt = halt }) low is))
 
-      pub come-further : noted.over ≡ false → noted.ignored ≡ true → HasComeNoting observe first start n s p
-      come-further on is = record { come = sym (led.goes_on on n) ∙ here; noted = says_on true on is }
+  -- the same of equal contents
+  pub says_same : (n : ℕ) (r q : Regs) (o first p last : Observed Seen) (halt : Option Halt) (ended : Bool) → o ≡ first → p ≡ last →
+      Says observe (end_within observe n r o) (is_ignored_within observe n r o) ended (record { regs = q; content = p; halt = halt }) →
+      Says observe (end_within observe n r first) (is_ignored_within observe n r first) ended (record { regs = q; content = last; halt = halt })
+  says_same n r q o first p last halt ended same later said =
+      subst (λ (x : Observed Seen). Says observe (end_within observe n r first) (is_ignored_within observe n r first) ended (record { regs = q; content = x; halt = halt })) later
+      (subst (λ (x : Observed Seen). Says observe (end_within observe n r x) (is_ignored_within observe n r x) ended (record { regs = q; content = p; halt = halt })) same said)
 
-      pub come-read : noted.over ≡ false → noted.ignored ≡ false → false ≡ is_ignored_within observe 12160 first start
-      come-read on is = says_on false on is
-
-      pub come-end : noted.over ≡ true → end_within observe 12160 first start ≡ ended s p noted.halt
-      come-end over = sym here ∙ led.ends over n
-
-      pub come-said : noted.over ≡ true → noted.ignored ≡ is_ignored_within observe 12160 first start
-      come-said over = sym (led.last over n) ∙ says
-
-      -- the rest of the frame ends it, as it has one end
-      pub come-rest : noted.over ≡ false → clock_of start.board.tia < 228 → clocks_passed start.board.tia < 228 →
-          (e : FrameEnd Seen) → end_within observe 12160 s p ≡ Some e → end_within observe 12160 first start ≡ Some e
-      come-rest on clock low e rest =
-          let end = run_ends observe 12160 first start clock (omega (arith, low)) (omega arith) in
-          let whole = end_within-run observe 12160 first start ∙ ap (as_frame_end observe) end.1 in
-          whole ∙ ap (λ (f : FrameEnd Seen). Some f) (one_end observe n 12160 s p _ e (sym (led.goes_on on n) ∙ here ∙ whole) rest)
-
-  -- a frame doesn't outlast its steps
-  none_not_some : (r : Regs) (o : Observed Seen) (e : FrameEnd Seen) → end_within observe 0 r o ≡ Some e → ⊥
-  unfolding end_within
-  none_not_some r o e h = cc
-
-  pub come-unended : (first r : Regs) (start o : Observed Seen) (k : ℕ) → HasComeNoting observe first start k r o → k ≡ 0 →
-      clock_of start.board.tia < 228 → clocks_passed start.board.tia < 228 → ⊥
-  come-unended first r start o k come none clock low =
-      let end = run_ends observe 12160 first start clock (omega (arith, low)) (omega arith) in
-      none_not_some r o _ (ap (λ j. end_within observe j r o) (sym none) ∙ come.come ∙ end_within-run observe 12160 first start ∙ ap (as_frame_end observe) end.1)
+  -- ---- the rest of a frame whose run stopped: it ends the frame, as that has one end
+  pub rest_ends : (r : Regs) (o : Observed Seen) (ended : Bool) (e : RunEnd (Observed Seen)) (f : FrameEnd Seen) → Says observe (end_within observe 12160 r o) (is_ignored_within observe 12160 r o) ended e →
+      ended ≡ false → clock_of o.board.tia < 228 → clocks_passed o.board.tia < 228 →
+      end_within observe 12160 e.regs e.content ≡ Some f → end_within observe 12160 r o ≡ Some f
+  rest_ends r o ended e f says stopped clock low rest =
+      let end = run_ends observe 12160 r o clock (omega (arith, low)) (omega arith) in
+      let whole = end_within-run observe 12160 r o ∙ ap (as_frame_end observe) end.1 in
+      let there = (says.stopped stopped).1 _ whole in
+      whole ∙ ap (λ (g : FrameEnd Seen). Some g) (one_end observe there.0 12160 e.regs e.content _ f there.1 rest)
 
 -- ---- the frame
 

@@ -33,7 +33,7 @@ use Rattle.vcs_machine.proofs.BusTime.{past}
 use Rattle.vcs_machine.proofs.Selecting.{lines_of_ports}
 
 -- what the timer's addresses select, and their line A2
-record AreTimer (s : Region) (d : Bool) : Type 0 where
+pub record AreTimer (s : Region) (d : Bool) : Type 0 where
   pub selects : s ≡ region.PortsAndTimer
   pub timer : d ≡ true
 
@@ -44,7 +44,7 @@ timer_lines region.Cartridge timer e = absurd (true≢false (sym e))
 timer_lines region.Ram timer e = absurd (true≢false (sym e))
 timer_lines region.Tia timer e = absurd (true≢false (sym e))
 
-lines_of : (addr : ℕ) → is_timer addr ≡ true → AreTimer (selected addr) (is_high 2 addr)
+pub lines_of : (addr : ℕ) → is_timer addr ≡ true → AreTimer (selected addr) (is_high 2 addr)
 lines_of addr = timer_lines (selected addr) (is_high 2 addr)
 
 -- what a read of the timer shows

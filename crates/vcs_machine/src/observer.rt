@@ -1,7 +1,7 @@
 //! What observes the colour clocks that pass on the bus.
 #![tactic(auto)]
 
-ghost use Rattle.std.specs.Prelude.{◌≡◌, ℕ, ◌+◌, ◌<◌, List, [], ◌++◌, false};
+ghost use Rattle.std.specs.Prelude.{◌≡◌, ℕ, Bool, ◌+◌, ◌<◌, List, [], ◌++◌, false};
 ghost use Rattle.vcs_tia.specs.Beam.{most_beam_clocks};
 ghost use Rattle.vcs_tia.specs.Tia.{clocks_passed, read_at};
 ghost use Rattle.vcs_tia.specs.Trace.{after_clocks, trace, drawn};
@@ -18,6 +18,9 @@ pub(crate) trait Observer {
 
     ghost seen: { Self → Seen };
 
+    /// Whether a run with it stops before an instruction that reads the input.
+    ghost watches: { Bool };
+
     /// What it has seen after further clocks, each of which it observes as it stands before.
     ghost observe: { List Tia → Seen → Seen };
 
@@ -33,6 +36,10 @@ pub(crate) trait Observer {
         ensures { result ≡ false → (n : ℕ) (t u : Tia)
             → observe (trace n t) (seen self.now) ≡ observe (trace n u) (seen self.now) };
 
+    /// Whether a run with it stops before an instruction that reads the input.
+    fn watches(&self) -> bool
+        ensures { result ≡ watches };
+
     /// It sees only what takes part in drawing.
     ghost observe_alike: { (n : ℕ) (t u : Tia) (s : Seen) → drawing_of t ≡ drawing_of u
         → observe (trace n t) s ≡ observe (trace n u) s };
@@ -46,12 +53,14 @@ pub(crate) trait Observer {
 }
 
 impl<A: Allocator> Observer for Picture<A> {
-    ghost use Rattle.std.specs.Prelude.{ℕ, List};
+    ghost use Rattle.std.specs.Prelude.{ℕ, List, false};
     ghost use Rattle.vcs_tia.specs.Trace.{drawn};
 
     ghost Seen = { List ℕ };
 
     ghost seen = { λ picture. picture };
+
+    ghost watches = { false };
 
     ghost observe = { drawn };
 
@@ -62,6 +71,11 @@ impl<A: Allocator> Observer for Picture<A> {
     #[inline(always)]
     fn looks(&self) -> bool {
         true
+    }
+
+    #[inline(always)]
+    fn watches(&self) -> bool {
+        false
     }
 
     ghost use Rattle.std.specs.Prelude.{◌≡◌};
@@ -84,11 +98,14 @@ impl<A: Allocator> Observer for Picture<A> {
 pub(crate) struct Nobody;
 
 impl Observer for Nobody {
+    ghost use Rattle.std.specs.Prelude.{false};
     ghost use Rattle.vcs_machine.specs.Bus.{nothing_seen};
 
     ghost Seen = { Unit {0} };
 
     ghost seen = { λ _. tt };
+
+    ghost watches = { false };
 
     ghost observe = { nothing_seen };
 
@@ -98,6 +115,11 @@ impl Observer for Nobody {
 
     #[inline(always)]
     fn looks(&self) -> bool {
+        false
+    }
+
+    #[inline(always)]
+    fn watches(&self) -> bool {
         false
     }
 

@@ -2,7 +2,14 @@
 #![tactic(auto)]
 
 ghost use Rattle.std.specs.Prelude.{◌≡◌, ◌+◌, ◌-◌, ◌*◌, ◌%◌, ◌<◌, ◌≤◌, true, false};
-ghost use Rattle.vcs_machine.specs.Inside.Times.{line_cycles, first_time, most_time, most_offset};
+ghost use Rattle.vcs_machine.specs.Inside.Times.{
+  line_cycles,
+  first_time,
+  end_time,
+  most_frame_clocks,
+  most_time,
+  most_offset,
+};
 ghost use Rattle.vcs_tia.specs.Tia.{clock_of, clocks_passed};
 ghost use Rattle.vcs_tia.specs.Units.{line_clocks};
 
@@ -23,16 +30,16 @@ const FIRST: u32 = END - MOST_FRAME_LINES * LINE_CYCLES;
 /// The offset that brings any time of a frame to `END`.
 pub(crate) const LATE: u32 = 1 << 30;
 
-/// The time that a TIA has come to on line 0.
+/// The time that a TIA has come to on a frame's lines.
 pub(crate) fn time_of(tia: &Tia) -> u32
-    requires beam { clocks_passed tia.now < line_clocks }
+    requires beam { clocks_passed tia.now < most_frame_clocks }
     requires thirds { clocks_passed tia.now % 3 ≡ 0 }
     ensures time { clocks_passed tia.now + 3 * first_time ≡ 3 * result }
-    ensures low { result < first_time + line_cycles }
+    ensures low { result < end_time }
     ensures clock { clock_of tia.now < line_clocks }
 {
-    let (_line, clock) = tia.beam();
-    FIRST + (clock / 3) as u32
+    let (line, clock) = tia.beam();
+    FIRST + line as u32 * LINE_CYCLES + (clock / 3) as u32
 }
 
 /// The time after a wait where one is owed: the one at which the next line begins, or this one where it begins now.

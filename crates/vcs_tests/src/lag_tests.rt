@@ -197,6 +197,23 @@ static ROWS: &[Row] = &[
         &[0xa2, 0x0a, 0x9a, 0x28, 0x4c, 0x04, 0xf0],
         LAG,
     ),
+    // LDA #05, STA TIM64T, then LDA INTIM, BNE until it is 0, whose polls pass at once; then LDA SWCHA, and LDA SWACNT
+    (
+        "polls of INTIM before LDA SWCHA",
+        &[
+            0xa9, 0x05, 0x8d, 0x96, 0x02, 0xad, 0x84, 0x02, 0xd0, 0xfb, 0xad, 0x80, 0x02, 0x4c,
+            0x00, 0xf0,
+        ],
+        READS,
+    ),
+    (
+        "polls of INTIM before LDA SWACNT",
+        &[
+            0xa9, 0x05, 0x8d, 0x96, 0x02, 0xad, 0x84, 0x02, 0xd0, 0xfb, 0xad, 0x81, 0x02, 0x4c,
+            0x00, 0xf0,
+        ],
+        LAG,
+    ),
     // LDA #A9, STA SWACNT, LDA #60, STA SWBCNT, JSR 0281: there LDA # takes its byte of SWCHB, and RTS comes back
     (
         "LDA # with its byte in SWCHB",
@@ -241,7 +258,8 @@ fn check_input_is_ignored<R: Abort>(
     }
 }
 
-/// Plays three frames and checks what is said of them; of each lag frame, that the input makes no difference.
+/// Plays three frames and checks what is said of them, and that the states are those of `play`; of each lag frame, that the
+/// input makes no difference.
 fn check_row<R: Abort>(
     rt: &R,
     cart: &Cart,
@@ -255,6 +273,16 @@ fn check_row<R: Abort>(
         check_that(rt, name, meter.room() >= 1);
         let lag = play_for_lag(cart, &mut state, Input::none(), &mut meter);
         check_same(rt, (name, frame), lag, lags[frame]);
+        let mut played = before;
+        check_that(rt, name, meter.room() >= 1);
+        let _halt = play(
+            cart,
+            &mut played,
+            Input::none(),
+            &mut pictures.0,
+            &mut meter,
+        );
+        check_that(rt, (name, frame), state == played);
         if lag {
             check_input_is_ignored(rt, name, cart, &before, pictures);
         }

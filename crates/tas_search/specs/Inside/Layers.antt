@@ -1,5 +1,5 @@
 -- Layers: the machines that the sequences of one length reach, each with the first sequence that does.
-use Rattle.std.specs.Prelude.{ℕ, zero, suc, List, [], ◌∷◌, ◌++◌, length, if◌then◌else◌}
+use Rattle.std.specs.Prelude.{ℕ, zero, suc, ◌-◌, List, [], ◌∷◌, ◌++◌, length, if◌then◌else◌}
 use Rattle.std.specs.List.{list_any}
 use Rattle.vcs_machine.specs.Equality.{are_same_machines}
 use Rattle.vcs_machine.specs.Machine.{Machine, unless_halted}
@@ -27,7 +27,7 @@ abbrev pub next_from : SpaceContent → Reached → ℕ → ℕ → List Reached
 next_from s r k zero = []
 next_from s r k (suc n) = next_reached s r k ∷ next_from s r (suc k) n
 
--- the same of all choices; nothing goes on after a halt
+-- the same of all choices, after a choice or more; nothing goes on after a halt
 abbrev pub next_of : SpaceContent → Reached → List Reached
 next_of s r = unless_halted r.machine.halt (next_from s r 0 (length s.choices)) []
 
@@ -49,6 +49,14 @@ layers_from s layer (suc d) = layers_from s (grown s layer) d
 abbrev pub root : SpaceContent → Reached
 root s = record { machine = s.start; sequence = [] }
 
+-- what the first choices reach
+abbrev pub first_of : SpaceContent → List Reached
+first_of s = unless_halted s.start.halt (next_from s (root s) s.low (s.high - s.low)) []
+
+abbrev pub first_layer : SpaceContent → List Reached
+first_layer s = with_all [] (first_of s)
+
 -- the layer of the sequences of d choices
 abbrev pub layer_of : SpaceContent → ℕ → List Reached
-layer_of s d = layers_from s (root s ∷ []) d
+layer_of s zero = root s ∷ []
+layer_of s (suc d) = layers_from s (first_layer s) d

@@ -1,29 +1,16 @@
--- Requests of a conversation, by what they are about, and what came of a commit. Private functions cite this file.
+-- What came of a commit. Private functions cite this file.
 use Rattle.std.specs.Prelude.{◌≡◌, ◌≢◌, ℕ, Option, Some, None}
 use Rattle.tas_desk.specs.Seats.{SeatContent}
 use Rattle.tas_engines.specs.declared.fault.RunFault.{RunFault}
 use Rattle.tas_engines.specs.declared.fault.RunFault.TheVariants.{Foreign}
 use Rattle.tas_language.specs.Replies.{reply_text}
 use Rattle.tas_language.specs.Drafts.{draft_reply_text}
-use Rattle.tas_language.specs.declared.request.Request.{Request}
-use Rattle.tas_language.specs.declared.request.Request.TheVariants.{Share, History, Begin, Commit, Drop, Quit}
+use Rattle.tas_language.specs.declared.request.Request.TheVariants.{Commit}
 use Rattle.tas_seat.specs.Drafts.{DraftContent}
 use Rattle.tas_seat.specs.Conversations.{talking}
 use Rattle.tas_seat.specs.Outcomes.{IsMiscounted, HasTalkAnswer}
 use Rattle.tas_seat.specs.declared.conversation.Outcome.{Outcome}
 use Rattle.tas_seat.specs.declared.conversation.Outcome.TheVariants.{Made, Moved, Refused}
-use Rattle.tas_seat.specs.declared.conversation.Subject.{Subject}
-use Rattle.tas_seat.specs.declared.conversation.Subject.TheVariants as subject
-
--- what a request is about
-abbrev pub subject_of : Request → Subject
-subject_of Begin = subject.Begin
-subject_of Commit = subject.Commit
-subject_of Drop = subject.Drop
-subject_of Quit = subject.End
-subject_of Share = subject.Desk
-subject_of (History from) = subject.Desk
-subject_of _ = subject.Movie
 
 -- whether a history of `long` edits has another number than `at`; which, where it has
 abbrev pub HasMoved : ℕ → ℕ → Option ℕ → Type 0

@@ -1,22 +1,18 @@
 -- Parts of an answer at a draft. Private functions cite this file.
-use Rattle.std.specs.Prelude.{◌≡◌, ℕ, ◌+◌, ◌<◌, ◌≤◌, List, [], ◌∷◌, length, drop, reverse, Some, None, Result, Ok, Err}
+use Rattle.std.specs.Prelude.{◌≡◌, ℕ, ◌+◌, List, [], ◌∷◌, drop, reverse, Result}
 use Rattle.vcs_inputs.specs.declared.input.Input.{Input}
 use Rattle.tas_movie.specs.declared.edit.Edit.{Edit}
-use Rattle.tas_movie.specs.Content.{MovieContent, most_inputs}
+use Rattle.tas_movie.specs.Content.{MovieContent}
 use Rattle.tas_movie.specs.Front.{IsCommonFront}
 use Rattle.tas_movie.specs.Edit.{edited}
 use Rattle.tas_green.specs.declared.savestate.Savestate.{Savestate}
 use Rattle.tas_green.specs.Green.{IsLawful, IsShotFrom}
 use Rattle.tas_green.specs.Window.{IsPlayedNear, both}
-use Rattle.tas_green.specs.Run.{state_after}
 use Rattle.tas_session.specs.declared.replies.Shot.{Shot}
-use Rattle.tas_published.specs.declared.errors.ShotError.TheVariants.{NoEntry, NoFrame, Memory as NoShotMemory, Halted}
 use Rattle.tas_session.specs.declared.replies.Reached.{Reached}
 use Rattle.tas_published.specs.declared.errors.StateError.{StateError}
-use Rattle.tas_published.specs.declared.errors.StateError.TheVariants.{NoEntry as NoStateEntry, NoFrame as FewFrames, Memory as NoStateMemory}
 use Rattle.tas_published.specs.declared.errors.ShotError.{ShotError}
 use Rattle.tas_session.specs.Session.{left_by}
-use Rattle.tas_session.specs.Answers.{answer_shot}
 use Rattle.tas_engines.specs.declared.fault.RunFault.{RunFault}
 use Rattle.tas_engines.specs.declared.fault.RunFault.TheVariants.{Memory}
 use Rattle.tas_language.specs.declared.reply.Reply.{Reply}
@@ -28,6 +24,7 @@ use Rattle.tas_seat.specs.declared.edit_requests.EditRequest.TheVariants.{Load, 
 use Rattle.tas_seat.specs.Edits.{made_between}
 use Rattle.tas_seat.specs.Drafts.{DraftContent, draft_standing, left_by_edits, near_left_by_edits, inner_inputs, IsDraftAnswered, IsDraftUnanswered}
 use Rattle.tas_seat.specs.Inside.EditRequests.{requested_refusal, requested_edit, TakesMemory}
+use Rattle.tas_seat.specs.Inside.Looking.{IsShotFound, IsStateFound}
 use Rattle.tas_seat.specs.Outcomes.{IsTurnOf}
 
 -- the draft with other states and another window
@@ -72,13 +69,9 @@ pub record IsDraftViewed (before now : DraftContent) (k end ran : ℕ) : Type 0 
   pub lawful : IsLawful before.movie now.states
   pub view : IsPlayedNear before.movie before.movie k end (both before.states before.near) (both now.states now.near) ran
 
--- a drawing at a draft, where `left` says what it leaves after this many played frames
+-- a drawing at a draft, where `left` says what it leaves after this many played frames: a draft needs no entry
 abbrev pub IsDraftDrawn : {B : Type 0} → (ℕ → Type 0) → (before now : DraftContent) → ℕ → Result (Shot B) ShotError → Type 0
-IsDraftDrawn left before now k (Ok shot) = (answer_shot before.movie k ≡ Some (Ok shot.picture)) × (shot.at ≡ before.at + before.made) × (shot.frame ≡ k) × left shot.ran
-IsDraftDrawn left before now k (Err NoEntry) = ⊥
-IsDraftDrawn left before now k (Err (NoFrame at len)) = (answer_shot before.movie k ≡ None) × (at ≡ before.at + before.made) × (len ≡ length before.movie.inputs) × (now ≡ before)
-IsDraftDrawn left before now k (Err NoShotMemory) = (k < length before.movie.inputs) × (now ≡ before)
-IsDraftDrawn left before now k (Err (Halted at halt)) = (answer_shot before.movie k ≡ Some (Err halt)) × (at ≡ before.at + before.made) × (ran : ℕ) × left ran
+IsDraftDrawn left before now k result = IsShotFound (draft_standing before) ⊥ (now ≡ before) left k result
 
 -- a shot at a draft, and a picture
 abbrev pub IsDraftShot : {B : Type 0} → (before now : DraftContent) → ℕ → Result (Shot B) ShotError → Type 0
@@ -87,13 +80,9 @@ IsDraftShot before now k result = IsDraftDrawn (IsDraftPlayed before now k) befo
 abbrev pub IsDraftPicture : {B : Type 0} → (before now : DraftContent) → ℕ → Result (Shot B) ShotError → Type 0
 IsDraftPicture before now k result = IsDraftDrawn (IsDraftViewed before now k (k + 1)) before now k result
 
--- the state after `from` frames of a draft's movie, where it has `to` frames or more, and `from` of them
+-- the state after `from` frames of a draft's movie, where it has those from there up to the place `to`
 abbrev pub IsDraftStateFor : (before now : DraftContent) → (from to : ℕ) → Result Reached StateError → Type 0
-IsDraftStateFor before now from to (Ok reached) =
-    (from ≤ to) × (to ≤ length before.movie.inputs) × (reached.at ≡ before.at + before.made) × (reached.state ≡ state_after before.movie from) × IsDraftViewed before now from from reached.ran
-IsDraftStateFor before now from to (Err NoStateEntry) = ⊥
-IsDraftStateFor before now from to (Err (FewFrames at len)) = (from ≤ to → to ≤ length before.movie.inputs → ⊥) × (at ≡ before.at + before.made) × (len ≡ length before.movie.inputs) × (len ≤ most_inputs) × (now ≡ before)
-IsDraftStateFor before now from to (Err NoStateMemory) = (from ≤ to) × (to ≤ length before.movie.inputs) × (now ≡ before)
+IsDraftStateFor before now from to result = IsStateFound (draft_standing before) ⊥ (now ≡ before) (IsDraftViewed before now from from) from to result
 
 -- a command is replied to at a draft
 abbrev pub IsDraftReply : (before now : DraftContent) → Request → Reply → Type 0

@@ -1,6 +1,7 @@
 -- A desk's seats on the way from its opening to its end. Private functions cite this file.
-use Rattle.std.specs.Prelude.{◌≡◌, ℕ, suc, ◌<◌, ◌≤◌, List, [], length, take, All, slice_get, Option, Some, Result, Ok, Err, ◌⊎◌, Vec, vec_len, vec_capacity}
+use Rattle.std.specs.Prelude.{◌≡◌, ℕ, suc, ◌<◌, ◌≤◌, true, List, [], length, take, All, slice_get, Option, Some, Result, Ok, Err, ◌⊎◌, Vec, vec_len, vec_capacity}
 use mathlib.Core.List.{IsPrefix}
+use Rattle.vcs_inputs.specs.Cart.{is_cart_size}
 use Rattle.tas_movie.specs.Content.{MovieContent}
 use Rattle.tas_movie.specs.declared.edit.Edit.{Edit}
 use Rattle.tas_published.specs.declared.entry.Entry.{Entry}
@@ -11,8 +12,9 @@ use Rattle.tas_engines.specs.declared.fault.RunFault.{RunFault}
 use Rattle.tas_engines.specs.declared.fault.SeatFault.{SeatFault}
 use Rattle.tas_engines.specs.declared.fault.ToolFault.{ToolFault}
 use Rattle.tas_engines.specs.declared.fault.ToolFault.TheVariants.{Read, Run}
-use Rattle.tas_engines.specs.Input.{IsReadWhole, StopsReadingTwo}
+use Rattle.tas_engines.specs.Input.{IsReadWhole, StopsReading, StopsReadingTwo}
 use Rattle.tas_engines.specs.Movies.{IsMovieOf, IsMovieFault}
+use Rattle.tas_engines.specs.Tracing.{IsImageFault}
 use Rattle.tas_seat.specs.Lines.{DoorFacts, IsHeld}
 use Rattle.tas_tool.specs.Desks.{IsBlankZone}
 use Rattle.tas_tool.specs.Inside.TwoEdits.{HoldsMovie, IsMakingFault}
@@ -69,3 +71,9 @@ ReadsMovie cart cart' movie movie' (Ok content) = (image : List ℕ) × (said : 
 ReadsMovie cart cart' movie movie' (Err end) =
     ((fault : ReadFault) × (end ≡ Read fault) × StopsReadingTwo cart cart' movie movie' fault)
     ⊎ ((image : List ℕ) × (said : List ℕ) × IsReadWhole cart cart' image × IsReadWhole movie movie' said × ((fault : RunFault) × (end ≡ Run fault) × IsMovieFault image said fault))
+
+-- a cartridge was read, and this is the movie of it with no inputs; or not
+abbrev pub ReadsCart : (cart cart' : Option (List ℕ)) → Result MovieContent ToolFault → Type 0
+ReadsCart cart cart' (Ok content) = (image : List ℕ) × IsReadWhole cart cart' image × (is_cart_size (length image) ≡ true) × (content ≡ record { cart = image; inputs = [] })
+ReadsCart cart cart' (Err end) =
+    ((fault : ReadFault) × (end ≡ Read fault) × StopsReading cart cart' fault) ⊎ ((image : List ℕ) × IsReadWhole cart cart' image × ((fault : RunFault) × (end ≡ Run fault) × IsImageFault image fault))

@@ -1,21 +1,20 @@
--- A step whose reads are noted. Only private functions cite this file.
-use Rattle.std.specs.Prelude.{◌≡◌, ℕ, suc, true, false, ◌&&◌, List, Some}
-use Rattle.vcs_cpu.specs.declared.regs.Regs.{Regs}
+-- A frame's run that stops before the first step that doesn't ignore the input. Only private functions cite this file.
+use Rattle.std.specs.Prelude.{◌≡◌, Bool, true, false, not, List, Option, Some}
+use Rattle.std.specs.List.{list_any}
+use Rattle.vcs_cpu.specs.Reads.{addresses_read}
+use Rattle.vcs_cpu.specs.Runs.{RunEnd, Settling}
 use Rattle.vcs_tia.specs.declared.chip.Tia.{Tia}
-use Rattle.vcs_machine.specs.Bus.{Observed}
-use Rattle.vcs_machine.specs.Frame.{most_instructions, end_within}
-use Rattle.vcs_machine.specs.Lag.{is_ignored_within}
-use Rattle.vcs_machine.specs.declared.lag.LagStep.{LagStep}
+use Rattle.vcs_tia.specs.Tia.{latches_presses}
+use Rattle.vcs_machine.specs.Bus.{Observed, board_byte_at}
+use Rattle.vcs_machine.specs.Frame.{FrameEnd, EndsAt, console_settling}
+use Rattle.vcs_machine.specs.Lag.{shows_input}
 
--- where a step led: to the frame's end, or to where the frame goes on; and what it says of the input
-pub record LeadsTo {Seen : Type 0} (observe : List Tia → Seen → Seen) (regs : Regs) (o : Observed Seen) (noted : LagStep) (regs' : Regs) (o' : Observed Seen) : Type 0 where
-  pub ends : noted.over ≡ true → (n : ℕ) → end_within observe (suc n) regs o ≡ Some (record { regs = regs'; observed = o'; halt = noted.halt })
-  pub last : noted.over ≡ true → (n : ℕ) → is_ignored_within observe (suc n) regs o ≡ noted.ignored
-  pub goes_on : noted.over ≡ false → (n : ℕ) → end_within observe (suc n) regs o ≡ end_within observe n regs' o'
-  pub next : noted.over ≡ false → (n : ℕ) → is_ignored_within observe (suc n) regs o ≡ (noted.ignored && is_ignored_within observe n regs' o')
+module _ {Seen : Type 0} (observe : List Tia → Seen → Seen) where
+  -- the console's settling, for a run that stops there
+  abbrev pub watching : Settling (Observed Seen)
+  watching = record (console_settling observe) { stops = λ regs o. list_any (shows_input o.board) (addresses_read regs (board_byte_at o.board)) }
 
--- where steps that ignored the input have come so far with n left: what is to come is what was to come at the first one, and so is what
--- they say of the input
-pub record HasComeNoting {Seen : Type 0} (observe : List Tia → Seen → Seen) (first : Regs) (start : Observed Seen) (n : ℕ) (regs : Regs) (o : Observed Seen) : Type 0 where
-  pub come : end_within observe n regs o ≡ end_within observe most_instructions first start
-  pub noted : is_ignored_within observe n regs o ≡ is_ignored_within observe most_instructions first start
+  -- what the end of such a run says of a frame: of its end and of whether all its steps ignore the input, where it is the frame's end or not
+  pub record Says (ends : Option (FrameEnd Seen)) (ignored ended : Bool) (e : RunEnd (Observed Seen)) : Type 0 where
+    pub over : ended ≡ true → (ends ≡ Some (record { regs = e.regs; observed = e.content; halt = e.halt })) × (ignored ≡ not (latches_presses e.content.board.tia))
+    pub stopped : ended ≡ false → (ignored ≡ false) × ((f : FrameEnd Seen) → ends ≡ Some f → EndsAt observe e.regs e.content f)

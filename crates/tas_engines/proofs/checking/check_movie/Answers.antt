@@ -11,3 +11,6 @@ returns g c =
 
 pub returns-in_err-frames : goal.returns-in_err-frames
 returns-in_err-frames g c = grind (arith, common_steps)
+
+pub returns-in_err-line : goal.returns-in_err-line
+returns-in_err-line g c = grind (arith, common_steps)

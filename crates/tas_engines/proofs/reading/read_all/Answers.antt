@@ -1,4 +1,5 @@
-use Rattle.std.proofs.Common.{ap, Err, IfErr, map, refl, subst, sym, ◌∙◌}
+use Rattle.std.proofs.lemmas.Grind.{common_steps}
+use Rattle.std.proofs.Common.{ap, Err, IfErr, map, refl, subst, sym, ◌∙◌, arith}
 use Rattle.std.specs.Prelude.{slice_set}
 use Rattle.std.proofs.lemmas.List.{length-set}
 use Rattle.std.proofs.lemmas.Result.{err_from_is_err_and}
@@ -23,3 +24,6 @@ returns-in_err-read_onto-clause-fault g c =
     subst (λ r. IfErr r (StopsReadingAll (map g.R.Read.remaining c.args.readers.now) (map g.R.Read.remaining (slice_set c.loop-k.readers c.loop-k.k c.read_onto.new.reader)))) (sym (told.1 ∙ ap Err told.2))
     (stops_at g.R.Read.remaining c.args.readers.now c.loop-k.readers c.loop-k.k c.index-readers-k.result c.read_onto.new.reader c.in_err-read_onto.field-0.0 _
     c.loop-k-test.true c.loop-k.invariant.len c.loop-k.invariant.rest c.loop-k.invariant.whole c.in_err-read_onto.ensures.fault)
+
+pub offset_bounds-readers-k : goal.offset_bounds-readers-k
+offset_bounds-readers-k g c = grind (arith, common_steps)

@@ -25,3 +25,6 @@ returns-in-Some-eq0-clause-whole g c = grind (arith, common_steps)
 
 pub loop-bytes-smaller : goal.loop-bytes-smaller
 loop-bytes-smaller g c = grind (arith, common_steps)
+
+pub returns-in-None-clause-fault : goal.returns-in-None-clause-fault
+returns-in-None-clause-fault g c = grind (arith, common_steps)

@@ -1,4 +1,4 @@
-use Rattle.std.proofs.Common.{ℕ, ◌++◌, List, Option, length}
+use Rattle.std.proofs.Common.{ℕ, ◌≡◌, ◌++◌, List, Option, length}
 use Rattle.byte_text.specs.Splitting.{NoByte}
 use Rattle.tas_desk.specs.Seats.{SeatContent}
 use Rattle.tas_language.specs.Held.{HoldsLine}
@@ -8,13 +8,16 @@ use Rattle.tas_journaling.specs.Inside.{IsUnderway}
 use Rattle.tas_journaling.proofs.talking.answer_part.Given as goal
 
 abbrev pub invariant-loop-front : goal.invariant-loop-front
-invariant-loop-front g l = (start : SeatContent g.row.A.Denot) → (first : Ways) → (input : Option (List ℕ)) → (said : List ℕ) → HoldsLine said l.fn.line.bytes.items l.fn.line.long → NoByte 10 said
-    → IsUnderway start first (talking l.fn.seat l.fn.draft) l.fn.before (record { input = input; output = g.W.Write.contents l.fn.output; journal = l.fn.journal }) (said ++ l.part)
-    → (held : List ℕ) × record {
-      none : NoByte 10 held;
-      holds : HoldsLine held l.line.bytes.items l.line.long;
-      way : IsUnderway start first (talking l.seat l.draft) l.written (record { input = input; output = g.W.Write.contents l.output; journal = l.journal }) (held ++ l.rest);
-    }
+invariant-loop-front g l = record {
+  begun : l.journal.first ≡ l.fn.journal.first;
+  way : (start : SeatContent g.row.A.Denot) → (first : Ways) → (input : Option (List ℕ)) → (said : List ℕ) → HoldsLine said l.fn.line.bytes.items l.fn.line.long → NoByte 10 said
+      → IsUnderway start first (talking l.fn.seat l.fn.draft) l.fn.before (record { input = input; output = g.W.Write.contents l.fn.output; journal = l.fn.journal }) (said ++ l.part)
+      → (held : List ℕ) × record {
+        none : NoByte 10 held;
+        holds : HoldsLine held l.line.bytes.items l.line.long;
+        way : IsUnderway start first (talking l.seat l.draft) l.written (record { input = input; output = g.W.Write.contents l.output; journal = l.journal }) (held ++ l.rest);
+      };
+}
 
 abbrev pub decreases-loop-front : goal.decreases-loop-front
 decreases-loop-front g l = length l.rest

@@ -1,24 +1,25 @@
-use Rattle.std.proofs.Common.{ℕ, [], take, None, ap, arith, rules}
+use Rattle.std.proofs.Common.{ℕ, [], take, None, ap, refl, ◌∙◌, arith, rules}
 use Rattle.tas_seat.specs.Conversations.{talking}
 use Rattle.tas_journaling.proofs.TalkLemmas.{begins, last_ends, memory_ends, reads_on, reads_out, unread}
 use Rattle.tas_journaling.proofs.talking.converse_noted.Goals as goal
 
-pub returns-in_default : goal.returns-in_default
-returns-in_default g c = memory_ends c.args.seat.now _ (talking c.args.seat.now None) 0 _ [] (begins c.args.seat.now _)
+pub returns-in_default-clause-talk : goal.returns-in_default-clause-talk
+returns-in_default-clause-talk g c = memory_ends c.args.seat.now _ (talking c.args.seat.now None) 0 _ [] (begins c.args.seat.now _)
 
 pub loop-init : goal.loop-init
 loop-init g c = record {
+  first = refl;
   way = ([], record { none = tt; holds = c.in-Ok.ensures; way = begins c.args.seat.now _ });
   next = search rules;
 }
 
-pub returns-in_default-read : goal.returns-in_default-read
-returns-in_default-read g c =
+pub returns-in_default-read-clause-talk : goal.returns-in_default-read-clause-talk
+returns-in_default-read-clause-talk g c =
     let (said, i) = c.loop.invariant.way in
     unread c.args.seat.now _ (talking c.loop.seat c.loop.draft) c.loop.written _ _ _ c.loop.journal said i.way i.none c.in_default-read.ensures.bytes
 
-pub returns-then-count-eq0 : goal.returns-then-count-eq0
-returns-then-count-eq0 g c =
+pub returns-then-count-eq0-clause-talk : goal.returns-then-count-eq0-clause-talk
+returns-then-count-eq0-clause-talk g c =
     let (said, i) = c.loop.invariant.way in
     last_ends c.args.seat.now _ (talking c.loop.seat c.loop.draft) c.loop.written _ _ _ c.loop.journal said c.answer_last.result
     (reads_out c.args.seat.now _ (talking c.loop.seat c.loop.draft) c.loop.written _ _ _ c.loop.journal said (take c.in-Ok-read.count c.read.new.buf) i.way c.in-Ok-read.ensures.bytes.0 (ap (λ (n : ℕ). take n c.read.new.buf) c.if-count-eq0.true)) i.none
@@ -26,22 +27,23 @@ returns-then-count-eq0 g c =
 
 pub loop-preserved : goal.loop-preserved
 loop-preserved g c = record {
+  first = c.in-Ok-Some.ensures.first ∙ c.loop.invariant.first;
   way =
       let (said, i) = c.loop.invariant.way in
       let here = reads_on c.args.seat.now _ (talking c.loop.seat c.loop.draft) c.loop.written _ _ _ c.loop.journal said (take c.in-Ok-read.count c.read.new.buf) i.way c.in-Ok-read.ensures.bytes.0 in
-      let (held, none, holds, way) = (rw c.in-Ok-Some.field-0-is at c.in-Ok-Some.ensures) c.args.seat.now _ _ said i.holds i.none here in
+      let (held, none, holds, way) = (rw c.in-Ok-Some.field-0-is at c.in-Ok-Some.ensures.turn) c.args.seat.now _ _ said i.holds i.none here in
       (held, record { none = none; holds = holds; way = way });
   next = search rules;
 }
 
-pub returns-in-Ok-None : goal.returns-in-Ok-None
-returns-in-Ok-None g c =
+pub returns-in-Ok-None-clause-talk : goal.returns-in-Ok-None-clause-talk
+returns-in-Ok-None-clause-talk g c =
     let (said, i) = c.loop.invariant.way in
-    (rw c.in-Ok-None.field-0-is at c.in-Ok-None.ensures) c.args.seat.now _ _ said i.holds i.none
+    (rw c.in-Ok-None.field-0-is at c.in-Ok-None.ensures.turn) c.args.seat.now _ _ said i.holds i.none
     (reads_on c.args.seat.now _ (talking c.loop.seat c.loop.draft) c.loop.written _ _ _ c.loop.journal said (take c.in-Ok-read.count c.read.new.buf) i.way c.in-Ok-read.ensures.bytes.0)
 
-pub returns-in-Err : goal.returns-in-Err
-returns-in-Err g c =
+pub returns-in-Err-clause-talk : goal.returns-in-Err-clause-talk
+returns-in-Err-clause-talk g c =
     let (said, i) = c.loop.invariant.way in
-    c.in-Err.ensures c.args.seat.now _ _ said i.holds i.none
+    c.in-Err.ensures.turn c.args.seat.now _ _ said i.holds i.none
     (reads_on c.args.seat.now _ (talking c.loop.seat c.loop.draft) c.loop.written _ _ _ c.loop.journal said (take c.in-Ok-read.count c.read.new.buf) i.way c.in-Ok-read.ensures.bytes.0)

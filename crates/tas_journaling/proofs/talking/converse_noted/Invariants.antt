@@ -1,4 +1,4 @@
-use Rattle.std.proofs.Common.{ℕ, List}
+use Rattle.std.proofs.Common.{◌≡◌, ℕ, List}
 use Rattle.byte_text.specs.Splitting.{NoByte}
 use Rattle.tas_language.specs.Held.{HoldsLine}
 use Rattle.tas_seat.specs.Conversations.{talking}
@@ -7,6 +7,7 @@ use Rattle.tas_journaling.proofs.talking.converse_noted.Given as goal
 
 abbrev pub invariant-loop : goal.invariant-loop
 invariant-loop g l = record {
+  first : l.journal.first ≡ l.fn.journal.first;
   way : (said : List ℕ) × record {
     none : NoByte 10 said;
     holds : HoldsLine said l.line.bytes.items l.line.long;

@@ -15,5 +15,20 @@ returns-in-Recover g c = rw (c.in-Err.is, c.in-Recover.is)
 pub returns-in-Report : goal.returns-in-Report
 returns-in-Report g c = rw (c.in-Err.is, c.in-Report.is)
 
+pub returns-in-NoJournal : goal.returns-in-NoJournal
+returns-in-NoJournal g c = rw (c.in-Err.is, c.in-NoJournal.is)
+
+pub returns-in-Journal : goal.returns-in-Journal
+returns-in-Journal g c = rw (c.in-Err.is, c.in-Journal.is)
+
+pub returns-in-Verify : goal.returns-in-Verify
+returns-in-Verify g c = rw (c.in-Err.is, c.in-Verify.is)
+
+pub returns-in-NoCarts : goal.returns-in-NoCarts
+returns-in-NoCarts g c = rw (c.in-Err.is, c.in-NoCarts.is)
+
+pub returns-in-NotAll : goal.returns-in-NotAll
+returns-in-NotAll g c = rw (c.in-Err.is, c.in-NotAll.is)
+
 pub returns-in-NoReport : goal.returns-in-NoReport
 returns-in-NoReport g c = rw (c.in-Err.is, c.in-NoReport.is)

@@ -5,6 +5,7 @@ use Rattle.tas_engines.specs.Movies.{IsMovieRun}
 use Rattle.tas_engines.specs.Starting.{IsNewAnswer}
 use Rattle.tas_tool.specs.Films.{IsFilmRun}
 use Rattle.tas_tool.specs.Pixmaps.{IsExportAnswer}
+use Rattle.tas_program.specs.Program.{talk_of}
 use Rattle.tas_program.specs.Reporting.{reported_of}
 use Rattle.tas_program.specs.declared.searching.Reported.TheVariants as reported
 use Rattle.tas_program.proofs.ProgramLemmas.{over_alone, over_one}
@@ -17,7 +18,17 @@ returns-in_ok-cart-in-New g c =
 
 pub unreachable-requires : goal.unreachable-requires
 unreachable-requires g c =
-    let recovery : Some (reported.Recovery c.in-Recover.field-0) ≡ None = sym (ap reported_of c.in-Recover.is) ∙ c.requires in
+    let recovery : Some (reported.Recovery c.in-Recover.field-0) ≡ None = sym (ap reported_of c.in-Recover.is) ∙ c.requires.reports in
+    cc
+
+pub unreachable-requires-in-Verify : goal.unreachable-requires-in-Verify
+unreachable-requires-in-Verify g c =
+    let verification : Some (reported.Verification c.in-Verify.field-0) ≡ None = sym (ap reported_of c.in-Verify.is) ∙ c.requires.reports in
+    cc
+
+pub unreachable-requires-in-Talk : goal.unreachable-requires-in-Talk
+unreachable-requires-in-Talk g c =
+    let talk : Some c.in-Talk.field-0 ≡ None = sym (ap talk_of c.in-Talk.is) ∙ c.requires.talk in
     cc
 
 pub returns-in_ok-open-in-Film : goal.returns-in_ok-open-in-Film

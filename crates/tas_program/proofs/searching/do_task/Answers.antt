@@ -1,15 +1,20 @@
 use Rattle.std.proofs.Common.{sym}
 use Rattle.tas_program.specs.Files.{files_by}
-use Rattle.tas_program.proofs.SearchLemmas.{any_reported, ends_other, ends_reported}
+use Rattle.tas_program.proofs.SearchLemmas.{any_reported, ends_other, ends_reported, ends_talk}
 use Rattle.tas_program.proofs.searching.do_task.Goals as goal
 
 pub returns-in-Some : goal.returns-in-Some
 returns-in-Some g c =
-    ends_reported (files_by (g.F.Folder.bytes_of c.args.folder.now) (g.F.Folder.held_by c.args.folder.now) (g.F.Folder.shown c.args.folder.now)) c.args.task c.in-Some.words (g.E.Write.contents c.args.errors.now) (g.E.Write.contents c.run_reported.new.errors) (record { input = g.R.Read.remaining c.args.input.now; output = g.W.Write.contents c.args.output.now })
+    ends_reported g.F.Folder.steps (files_by (g.F.Folder.bytes_of c.args.folder.now) (g.F.Folder.held_by c.args.folder.now) (g.F.Folder.shown c.args.folder.now)) c.args.task c.in-Some.words (g.E.Write.contents c.args.errors.now) (g.E.Write.contents c.run_reported.new.errors) (record { input = g.R.Read.remaining c.args.input.now; output = g.W.Write.contents c.args.output.now })
     (record { input = g.R.Read.remaining c.run_reported.new.input; output = g.W.Write.contents c.run_reported.new.output }) c.run_reported.result (sym c.in-Some.ensures)
     (any_reported g.F.Folder.steps _ c.in-Some.words _ _ _ _ _ c.run_reported.ensures)
 
-pub returns-in-None : goal.returns-in-None
-returns-in-None g c =
-    ends_other (files_by (g.F.Folder.bytes_of c.args.folder.now) (g.F.Folder.held_by c.args.folder.now) (g.F.Folder.shown c.args.folder.now)) c.args.task (record { input = g.R.Read.remaining c.args.input.now; output = g.W.Write.contents c.args.output.now })
-    (record { input = g.R.Read.remaining c.run_engine-end.new.input; output = g.W.Write.contents c.run_engine-end.new.output }) c.run_engine-end.result c.ended.result (sym c.in-None.ensures) c.ended.ensures c.run_engine-end.ensures
+pub returns-in-Some-talk_of : goal.returns-in-Some-talk_of
+returns-in-Some-talk_of g c =
+    ends_talk g.F.Folder.steps (files_by (g.F.Folder.bytes_of c.args.folder.now) (g.F.Folder.held_by c.args.folder.now) (g.F.Folder.shown c.args.folder.now)) c.args.task c.in-Some-talk_of.words c.hold_words.result.movie (record { input = g.R.Read.remaining c.args.input.now; output = g.W.Write.contents c.args.output.now })
+    (record { input = g.R.Read.remaining c.hold_words.new.input; output = g.W.Write.contents c.hold_words.new.output }) c.hold_words.result.end (sym c.in-None.ensures) (sym c.in-Some-talk_of.ensures) c.hold_words.ensures
+
+pub returns-in-None-talk_of : goal.returns-in-None-talk_of
+returns-in-None-talk_of g c =
+    ends_other g.F.Folder.steps (files_by (g.F.Folder.bytes_of c.args.folder.now) (g.F.Folder.held_by c.args.folder.now) (g.F.Folder.shown c.args.folder.now)) c.args.task (record { input = g.R.Read.remaining c.args.input.now; output = g.W.Write.contents c.args.output.now })
+    (record { input = g.R.Read.remaining c.run_engine-end.new.input; output = g.W.Write.contents c.run_engine-end.new.output }) c.run_engine-end.result c.ended.result (sym c.in-None.ensures) (sym c.in-None-talk_of.ensures) c.ended.ensures c.run_engine-end.ensures

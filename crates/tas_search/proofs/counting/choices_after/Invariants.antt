@@ -4,4 +4,4 @@ use Rattle.tas_search.specs.LayerLines.{going_on}
 use Rattle.tas_search.proofs.counting.choices_after.Given as goal
 
 abbrev pub invariant-loop-arrival : goal.invariant-loop-arrival
-invariant-loop-arrival g l = l.sum ≡ sum_by (λ a. going_on l.space a.state) (take l.arrival-index l.layer)
+invariant-loop-arrival g l = l.sum ≡ sum_by (λ a. going_on l.space l.depth a.state) (take l.arrival-index l.layer)

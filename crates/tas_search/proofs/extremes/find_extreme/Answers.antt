@@ -4,9 +4,10 @@ use Rattle.tas_search.specs.Goal.{value_in}
 use Rattle.tas_search.specs.Inside.Layers.{layer_of}
 use Rattle.tas_search.specs.LayerLines.{state_count}
 use Rattle.tas_search.specs.Logs.{log_bytes}
+use Rattle.tas_search.specs.declared.logs.Unfinished.TheVariants.{Memory}
 use Rattle.tas_search.proofs.CountLemmas.{frontier_states}
-use Rattle.tas_search.proofs.LogLemmas.{nothing_logged, on_err}
-use Rattle.tas_search.proofs.ReportLemmas.{full_more, lines_cut, lines_more, lines_none, lines_whole, reported_empty, reported_end, reported_last, reported_stop, some_left, start_full}
+use Rattle.tas_search.proofs.LogLemmas.{err_is}
+use Rattle.tas_search.proofs.ReportLemmas.{full_more, lines_cut, lines_more, lines_none, lines_whole, none_logged, reported_empty, reported_end, reported_last, reported_stop, some_left, start_full}
 use Rattle.tas_search.specs.Inside.Arrivals.{path}
 use Rattle.tas_search.proofs.ArrivalLemmas.{last_within}
 use Rattle.tas_search.specs.Best.{FitsBelow}
@@ -76,10 +77,10 @@ returns-then-not-branch-clause-reported g c =
 
 pub returns-in_err-step-clause-cut : goal.returns-in_err-step-clause-cut
 returns-in_err-step-clause-cut g c =
-    on_err _ _ (lines_cut c.args.space.now c.loop-depth.depth c.loop-depth.frontier.depth (log_bytes (g.E.Write.contents c.args.errors.now) (g.P.Write.contents c.args.report.now)) (log_bytes (g.E.Write.contents c.loop-depth.errors) (g.P.Write.contents c.loop-depth.report)) (log_bytes (g.E.Write.contents c.step.new.errors) (g.P.Write.contents c.step.new.report)) c.loop-depth.invariant.depth c.loop-depth.invariant.logged c.in_err-step.ensures.cut)
+    err_is _ c.in_err-step.field-0.0 _ c.from_residual-in_err-step.ensures.1 (lines_cut c.args.space.now c.args.limits.count c.args.limits.states c.in_err-step.field-0.0 c.loop-depth.depth c.loop-depth.frontier.depth (log_bytes (g.E.Write.contents c.args.errors.now) (g.P.Write.contents c.args.report.now)) (log_bytes (g.E.Write.contents c.loop-depth.errors) (g.P.Write.contents c.loop-depth.report)) (log_bytes (g.E.Write.contents c.step.new.errors) (g.P.Write.contents c.step.new.report)) c.loop-depth.invariant.depth (omega (arith, c.loop-depth-test.true)) c.loop-depth.invariant.full c.loop-depth.invariant.fits c.in_err-step.ensures.kept c.loop-depth.invariant.logged c.in_err-step.ensures.cut)
 
 pub returns-in_err-frontier-clause-cut : goal.returns-in_err-frontier-clause-cut
-returns-in_err-frontier-clause-cut g c = on_err _ _ (lines_none c.args.space.now (log_bytes (g.E.Write.contents c.args.errors.now) (g.P.Write.contents c.args.report.now)))
+returns-in_err-frontier-clause-cut g c = err_is _ Memory _ c.from_residual.ensures.1 (lines_none c.args.space.now c.args.limits.count c.args.limits.states (log_bytes (g.E.Write.contents c.args.errors.now) (g.P.Write.contents c.args.report.now)))
 
 pub returns-then-is_empty-clause-reported : goal.returns-then-is_empty-clause-reported
 returns-then-is_empty-clause-reported g c =
@@ -93,7 +94,7 @@ loop-depth-init g c = record {
   depth = c.in_ok-frontier.ensures.depth;
   fits = none_below c.args.space.now c.args.limits.states;
   full = start_full c.args.space.now;
-  logged = nothing_logged (log_bytes (g.E.Write.contents c.args.errors.now) (g.P.Write.contents c.args.report.now));
+  logged = none_logged c.args.space.now (log_bytes (g.E.Write.contents c.args.errors.now) (g.P.Write.contents c.args.report.now));
 }
 
 pub returns-in-None-clause-reported : goal.returns-in-None-clause-reported
@@ -105,4 +106,4 @@ returns-clause-reported g c =
     reported_last c.args.space.now c.args.limits.count c.loop-depth.depth c.in_ok-choices-in-Some.choices.items c.loop-depth.frontier.parents.items (get_or c.as_slice-in-Some.result.now c.in-Some.i c.index-as_slice-i.result).step (log_bytes (g.E.Write.contents c.args.errors.now) (g.P.Write.contents c.args.report.now)) (log_bytes (g.E.Write.contents c.loop-depth.errors) (g.P.Write.contents c.loop-depth.report)) c.loop-depth.invariant.full (found ∙ ap (λ (n : ℕ). path c.loop-depth.frontier.parents.items n (get_or c.as_slice-in-Some.result.now c.in-Some.i c.index-as_slice-i.result).step) c.loop-depth.invariant.depth) c.loop-depth.invariant.logged
 
 pub returns-in_err-choices-in-Some-clause-cut : goal.returns-in_err-choices-in-Some-clause-cut
-returns-in_err-choices-in-Some-clause-cut g c = on_err _ _ (lines_whole c.args.space.now c.loop-depth.depth (log_bytes (g.E.Write.contents c.args.errors.now) (g.P.Write.contents c.args.report.now)) (log_bytes (g.E.Write.contents c.loop-depth.errors) (g.P.Write.contents c.loop-depth.report)) c.loop-depth.invariant.logged)
+returns-in_err-choices-in-Some-clause-cut g c = err_is _ Memory _ c.from_residual-in_err-choices-in-Some.ensures.1 (lines_whole c.args.space.now c.args.limits.count c.args.limits.states c.loop-depth.depth (log_bytes (g.E.Write.contents c.args.errors.now) (g.P.Write.contents c.args.report.now)) (log_bytes (g.E.Write.contents c.loop-depth.errors) (g.P.Write.contents c.loop-depth.report)) (omega arith) (λ k lt. c.loop-depth.invariant.full k (omega arith)) c.loop-depth.invariant.fits c.loop-depth.invariant.logged)

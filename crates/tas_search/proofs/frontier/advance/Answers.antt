@@ -32,8 +32,8 @@ returns-clause-counts g c =
     let frontier = c.args.frontier.now in
     let grown = rw c.in-Some.is at c.in_ok-grow.ensures.layer in
     let tried = rw c.in-Some.is at c.in_ok-grow.ensures.tried in
-    counts_are c.args.space.now frontier.depth frontier.place c.len-end.result frontier.parents.items c.keep_steps.new.parents.items frontier.layer.keys c.as_slice-before.result.now c.in-Some.grown.layer.keys c.in-Some.grown.tried c.len.result
+    counts_are c.args.space.now frontier.depth frontier.place c.len-end.result frontier.parents.items c.keep_steps.new.parents.items frontier.layer.keys c.as_slice-before.result.now c.in-Some.grown.layer.keys c.in-Some.grown.tried c.len-states.result c.len-end.result
     c.in_ok-counts.counts c.requires.frontier
     (moved_frontier c.args.space.now frontier.depth frontier.place c.len-end.result frontier.parents.items c.keep_steps.new.parents.items frontier.layer.keys c.as_slice-before.result.now c.in-Some.grown.layer.keys c.requires.frontier
     c.as_slice-before.ensures.keys (omega (arith, c.len-end.ensures, frontier.parents.ok.0)) (rw c.as_slice.ensures.keys at c.in_ok-keep_steps.ensures) grown.0)
-    c.as_slice-before.ensures.keys (omega (arith, c.len.ensures.len)) tried c.in_ok-counts.ensures
+    c.as_slice-before.ensures.keys (omega (arith, c.len-states.ensures.len)) tried (omega (arith, c.len-end.ensures, frontier.parents.ok.0)) c.in_ok-counts.ensures

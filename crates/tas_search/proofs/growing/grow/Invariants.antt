@@ -7,7 +7,7 @@ abbrev pub invariant-loop-at : goal.invariant-loop-at
 invariant-loop-at g l = record {
   within : l.at ≤ length l.layer;
   grown : l.grown.layer.keys ≡ grown_arrivals l.space [] l.place (take l.at l.layer);
-  tried : l.grown.tried ≡ tried_of l.space (take l.at l.layer);
+  tried : l.grown.tried ≡ tried_of l.space l.place (take l.at l.layer);
   fits : length l.grown.layer.keys ≤ l.limits.states;
 }
 

@@ -2,7 +2,7 @@ use Rattle.std.proofs.Common.{◌≡◌, ℕ, ◌+◌, ◌*◌, ◌/◌, ◌%◌
 use Rattle.std.specs.Prelude.{min}
 use Rattle.std.proofs.lemmas.Grind.{div_ceil_times}
 use Rattle.tas_search.specs.declared.arrival.Arrival.{Arrival}
-use Rattle.tas_search.specs.Inside.Arrivals.{Lists}
+use Rattle.tas_search.specs.Inside.Arrivals.{Finds}
 use Rattle.tas_search.proofs.GrowLemmas.{member}
 use Rattle.tas_search.proofs.growing.play_parts.Goals as goal
 
@@ -16,5 +16,5 @@ returns g c =
       within = λ k lt. let found = member parts k lt in let given = (c.in_ok-parts.ensures.each k found.0 lt).1 in omega (arith, given.argument_is.in_bounds);
       each = λ k d lt whole.
           let given = (c.in_ok-parts.ensures.each k d lt).1 in
-          subst (λ (bs : List Arrival). Lists c.args.space.now (c.args.place + k * c.args.stretch) bs (get_or parts k d).list.items) given.argument_is.value (given.call whole);
+          subst (λ (bs : List Arrival). Finds c.args.space.now (c.args.place + k * c.args.stretch) bs (get_or parts k d).found.keys (get_or parts k d).tried) given.argument_is.value (given.call whole);
     }

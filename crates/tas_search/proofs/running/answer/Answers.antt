@@ -9,5 +9,5 @@ returns-in-Err g c =
     inl (record {
       fault = subst (λ i. IsSearchError i c.in-Err.error) c.search_bytes-bytes.ensures c.in-Err.ensures.fault;
       output = Keeps-refl _;
-      report = subst (λ i. StopsText i (log_bytes (g.E.Write.contents c.args.errors.now) (g.P.Write.contents c.args.report.now)) (log_bytes (g.E.Write.contents c.search_text.new.errors) (g.P.Write.contents c.search_text.new.report))) c.search_bytes-bytes.ensures c.in-Err.ensures.cut;
+      report = subst (λ i. StopsText i c.in-Err.error (log_bytes (g.E.Write.contents c.args.errors.now) (g.P.Write.contents c.args.report.now)) (log_bytes (g.E.Write.contents c.search_text.new.errors) (g.P.Write.contents c.search_text.new.report))) c.search_bytes-bytes.ensures c.in-Err.ensures.cut;
     })

@@ -18,5 +18,5 @@ returns-in_err-read_onto g c =
 
 pub returns : goal.returns
 returns g c =
-    let ends = subst (λ inputs. Ends (λ report. report.items) (read_inputs c.args.search.now (map (λ bytes. bytes.items) inputs)) (g.W.Write.contents c.args.output.now) (g.W.Write.contents c.answer.new.output) (log_bytes (g.E.Write.contents c.args.errors.now) (g.P.Write.contents c.args.report.now)) (log_bytes (g.E.Write.contents c.answer.new.errors) (g.P.Write.contents c.answer.new.report)) c.answer.result) c.as_slice.ensures.value c.answer.ensures in
+    let ends = subst (λ inputs. Ends (λ verdict. verdict.items) (read_inputs c.args.search.now (map (λ bytes. bytes.items) inputs)) (g.W.Write.contents c.args.output.now) (g.W.Write.contents c.answer.new.output) (log_bytes (g.E.Write.contents c.args.errors.now) (g.P.Write.contents c.args.report.now)) (log_bytes (g.E.Write.contents c.answer.new.errors) (g.P.Write.contents c.answer.new.report)) c.answer.result) c.as_slice.ensures.value c.answer.ensures in
     inr (_, whole_last _ _ _ _ _ _ c.in_ok-inputs.ensures.whole c.in_ok-read_onto.ensures.whole, ends)

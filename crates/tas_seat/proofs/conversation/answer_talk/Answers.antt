@@ -4,7 +4,7 @@ use Rattle.std.proofs.lemmas.Result.{err_from_is_err_and}
 use Rattle.tas_language.specs.declared.request.Request.TheVariants.{Begin, Commit, Drop}
 use Rattle.tas_seat.specs.Conversations.{talking}
 use Rattle.tas_seat.proofs.SubjectLemmas.{begin_no_end, commit_no_end, drop_no_end, desk_no_end, movie_no_end, desk_no_movie, asked_as, unanswered_as, is_begin, is_commit, is_drop, desk_said, movie_in_draft, movie_at_desk}
-use Rattle.tas_seat.specs.Inside.Conversing.{subject_of}
+use Rattle.tas_seat.specs.Subjects.{subject_of}
 use Rattle.tas_seat.proofs.EntryLemmas.{shows, look_subject}
 use Rattle.tas_seat.proofs.conversation.answer_talk.Goals as goal
 

@@ -1,5 +1,6 @@
 use Rattle.std.proofs.lemmas.Grind.{common_steps}
-use Rattle.std.proofs.Common.{◌≡◌, ◌+◌, ◌∙◌, List, ℕ, Option, Some, None, Ok, Err, refl, ap, arith}
+use Rattle.std.proofs.Common.{◌≡◌, ◌+◌, ◌∙◌, List, ℕ, Option, Some, None, Ok, refl, sym, ap, arith}
+use Rattle.std.specs.Option.{option_map}
 use Rattle.std.proofs.lemmas.Result.{IfOk-weaker}
 use Rattle.vcs_cpu.specs.declared.halt.Halt.{Halt}
 use Rattle.vcs_machine.specs.declared.state.State.{State}
@@ -9,7 +10,9 @@ use Rattle.tas_green.proofs.RunLemmas.{after_more, picture_drawn}
 use Rattle.tas_session.specs.Answers.{shown_of}
 use Rattle.tas_language.specs.Answers.{frame_digest_text}
 use Rattle.tas_language.specs.Replies.{reply_text}
-use Rattle.tas_seat.proofs.AnswerLemmas.{shown_frame}
+use Rattle.tas_seat.specs.Turns.{standing_at}
+use Rattle.tas_seat.specs.Requests.{digest_found}
+use Rattle.tas_seat.proofs.ReachLemmas.{shown_frame}
 use Rattle.tas_seat.proofs.looks.digest_frame.Goals as goal
 
 pub returns-in-Err : goal.returns-in-Err
@@ -20,11 +23,9 @@ returns-in-Err g c =
     after_more movie.cart movie.inputs k c.args.begin c.play.new.state _ (rw (c.cart.ensures, c.inputs-inputs.ensures.inputs) at c.play.ensures.state) c.requires.begin c.requires.within in
     let halted : (state_after movie (k + 1)).halt ≡ Some c.in-Err.halt = rw (← next) c.in-Err.ensures.halted in
     IfOk-weaker c.reply_line.result _ _
-    (λ bytes is. record {
-      shown = Err c.in-Err.halt;
-      there = shown_frame movie k c.requires.within ∙ ap (λ (h : Option Halt). Some (shown_of h (picture_of movie k))) halted;
-      text_is = is ∙ ap reply_text c.halted_reply.ensures;
-    })
+    (λ bytes is.
+    ap (option_map (digest_found (standing_at movie c.args.at) k)) (shown_frame movie k c.requires.within ∙ ap (λ (h : Option Halt). Some (shown_of h (picture_of movie k))) halted)
+    ∙ ap (λ (l : List ℕ). Some l) (sym (is ∙ ap reply_text c.halted_reply.ensures)))
     c.reply_line.ensures
 
 pub returns : goal.returns
@@ -39,14 +40,13 @@ returns g c =
     let goes : (state_after movie (k + 1)).halt ≡ None = rw (← next) none in
     let ram = c.ram.ensures ∙ ap (λ (s : State). s.riot.ram) next in
     IfOk-weaker c.digest_answer.result _ _
-    (λ bytes is. record {
-      shown = Ok (picture_of movie k);
-      there = shown_frame movie k c.requires.within ∙ ap (λ (h : Option Halt). Some (shown_of h (picture_of movie k))) goes;
-      text_is =
-          is
-          ∙ ap (λ (l : List ℕ). frame_digest_text c.args.at k l (ppm_bytes c.play.new.picture)) ram
-          ∙ ap (λ (p : List ℕ). frame_digest_text c.args.at k (state_after movie (k + 1)).riot.ram (ppm_bytes p)) drawn;
-    })
+    (λ bytes is.
+    ap (option_map (digest_found (standing_at movie c.args.at) k)) (shown_frame movie k c.requires.within ∙ ap (λ (h : Option Halt). Some (shown_of h (picture_of movie k))) goes)
+    ∙ ap (λ (l : List ℕ). Some l) (sym (
+    is
+    ∙ ap (λ (l : List ℕ). frame_digest_text c.args.at k l (ppm_bytes c.play.new.picture)) ram
+    ∙ ap (λ (p : List ℕ). frame_digest_text c.args.at k (state_after movie (k + 1)).riot.ram (ppm_bytes p)) drawn
+    )))
     c.digest_answer.ensures
 
 pub bounds-inputs-frame : goal.bounds-inputs-frame

@@ -15,15 +15,6 @@ returns-in_ok-answer_picture-in-Picture-clause-answer g c = rw c.in-Picture.is c
 pub returns-in_ok-answer_pictures-in-Pictures-clause-answer : goal.returns-in_ok-answer_pictures-in-Pictures-clause-answer
 returns-in_ok-answer_pictures-in-Pictures-clause-answer g c = rw c.in-Pictures.is c.in_ok-answer_pictures-in-Pictures.ensures
 
-pub returns-in_ok-answer_ram-in-Ram-clause-answer : goal.returns-in_ok-answer_ram-in-Ram-clause-answer
-returns-in_ok-answer_ram-in-Ram-clause-answer g c = rw c.in-Ram.is c.in_ok-answer_ram-in-Ram.ensures
-
-pub returns-in_ok-answer_digest-in-Digest-clause-answer : goal.returns-in_ok-answer_digest-in-Digest-clause-answer
-returns-in_ok-answer_digest-in-Digest-clause-answer g c = rw c.in-Digest.is c.in_ok-answer_digest-in-Digest.ensures
-
-pub returns-in_ok-answer_lag-in-Lag-clause-answer : goal.returns-in_ok-answer_lag-in-Lag-clause-answer
-returns-in_ok-answer_lag-in-Lag-clause-answer g c = rw c.in-Lag.is c.in_ok-answer_lag-in-Lag.ensures
-
 pub returns-in_ok-answer_movie-in-Movie-clause-answer : goal.returns-in_ok-answer_movie-in-Movie-clause-answer
 returns-in_ok-answer_movie-in-Movie-clause-answer g c = rw c.in-Movie.is c.in_ok-answer_movie-in-Movie.ensures.answer
 
@@ -59,24 +50,6 @@ returns-in_ok-answer_pictures-in-Pictures-clause-talk g c = λ talk. absurd (rw 
 
 pub returns-in_err-answer_pictures-in-Pictures-clause-talk : goal.returns-in_err-answer_pictures-in-Pictures-clause-talk
 returns-in_err-answer_pictures-in-Pictures-clause-talk g c = λ talk. absurd (rw c.in-Pictures.is at talk)
-
-pub returns-in_ok-answer_ram-in-Ram-clause-talk : goal.returns-in_ok-answer_ram-in-Ram-clause-talk
-returns-in_ok-answer_ram-in-Ram-clause-talk g c = λ talk. absurd (rw c.in-Ram.is at talk)
-
-pub returns-in_err-answer_ram-in-Ram-clause-talk : goal.returns-in_err-answer_ram-in-Ram-clause-talk
-returns-in_err-answer_ram-in-Ram-clause-talk g c = λ talk. absurd (rw c.in-Ram.is at talk)
-
-pub returns-in_ok-answer_digest-in-Digest-clause-talk : goal.returns-in_ok-answer_digest-in-Digest-clause-talk
-returns-in_ok-answer_digest-in-Digest-clause-talk g c = λ talk. absurd (rw c.in-Digest.is at talk)
-
-pub returns-in_err-answer_digest-in-Digest-clause-talk : goal.returns-in_err-answer_digest-in-Digest-clause-talk
-returns-in_err-answer_digest-in-Digest-clause-talk g c = λ talk. absurd (rw c.in-Digest.is at talk)
-
-pub returns-in_ok-answer_lag-in-Lag-clause-talk : goal.returns-in_ok-answer_lag-in-Lag-clause-talk
-returns-in_ok-answer_lag-in-Lag-clause-talk g c = λ talk. absurd (rw c.in-Lag.is at talk)
-
-pub returns-in_err-answer_lag-in-Lag-clause-talk : goal.returns-in_err-answer_lag-in-Lag-clause-talk
-returns-in_err-answer_lag-in-Lag-clause-talk g c = λ talk. absurd (rw c.in-Lag.is at talk)
 
 pub returns-in_ok-answer_movie-in-Movie-clause-talk : goal.returns-in_ok-answer_movie-in-Movie-clause-talk
 returns-in_ok-answer_movie-in-Movie-clause-talk g c = λ talk. absurd (rw c.in-Movie.is at talk)
@@ -121,21 +94,6 @@ pub returns-in_err-answer_pictures-in-Pictures-clause-entry : goal.returns-in_er
 returns-in_err-answer_pictures-in-Pictures-clause-entry g c =
     let p = err_from_is_err_and c.from_residual-in_err-answer_pictures-in-Pictures.result c.from_residual-in_err-answer_pictures-in-Pictures.ensures.1 in
     rw (p.1, p.2) (λ e. rw c.in-Pictures.is tt)
-
-pub returns-in_err-answer_ram-in-Ram-clause-entry : goal.returns-in_err-answer_ram-in-Ram-clause-entry
-returns-in_err-answer_ram-in-Ram-clause-entry g c =
-    let p = err_from_is_err_and c.from_residual-in_err-answer_ram-in-Ram.result c.from_residual-in_err-answer_ram-in-Ram.ensures.1 in
-    rw (p.1, p.2) (λ e. rw c.in-Ram.is tt)
-
-pub returns-in_err-answer_digest-in-Digest-clause-entry : goal.returns-in_err-answer_digest-in-Digest-clause-entry
-returns-in_err-answer_digest-in-Digest-clause-entry g c =
-    let p = err_from_is_err_and c.from_residual-in_err-answer_digest-in-Digest.result c.from_residual-in_err-answer_digest-in-Digest.ensures.1 in
-    rw (p.1, p.2) (λ e. rw c.in-Digest.is tt)
-
-pub returns-in_err-answer_lag-in-Lag-clause-entry : goal.returns-in_err-answer_lag-in-Lag-clause-entry
-returns-in_err-answer_lag-in-Lag-clause-entry g c =
-    let p = err_from_is_err_and c.from_residual-in_err-answer_lag-in-Lag.result c.from_residual-in_err-answer_lag-in-Lag.ensures.1 in
-    rw (p.1, p.2) (λ e. rw c.in-Lag.is tt)
 
 pub returns-in_err-answer_movie-in-Movie-clause-entry : goal.returns-in_err-answer_movie-in-Movie-clause-entry
 returns-in_err-answer_movie-in-Movie-clause-entry g c =

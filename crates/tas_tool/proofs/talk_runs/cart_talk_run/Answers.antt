@@ -1,7 +1,10 @@
+use Rattle.std.proofs.Common.{refl}
+use Rattle.tas_tool.specs.Talk.{IsTalkLeaving, IsUnbegun}
+use Rattle.tas_tool.proofs.TalkRunLemmas.{over_cart, over_no_cart, untouched}
 use Rattle.tas_tool.proofs.talk_runs.cart_talk_run.Goals as goal
 
 pub returns-in-Err : goal.returns-in-Err
-returns-in-Err g c = rw (c.unbegun.ensures.movie, c.unbegun.ensures.end) (c.in-Err.ensures _ _)
+returns-in-Err g c = rw (c.unbegun.ensures.movie, c.unbegun.ensures.end) (over_no_cart (λ fault. fault) (IsUnbegun _) (IsTalkLeaving _) _ _ _ _ _ c.in-Err.ensures (untouched _ _, refl))
 
 pub returns-in-Ok : goal.returns-in-Ok
-returns-in-Ok g c = c.in-Ok.ensures _ _ _ _ _ _ c.talk_from.ensures
+returns-in-Ok g c = over_cart (λ fault. fault) (IsUnbegun _) (IsTalkLeaving _) _ _ _ _ _ _ _ _ c.in-Ok.ensures c.talk_from.ensures

@@ -15,6 +15,7 @@ returns c = (
     choices = found_word (rows_of (found_of c.args.matches.now)) (codes "CHOICES") _ c.word_of-3.ensures;
     names = found_word (rows_of (found_of c.args.matches.now)) (codes "NAMES") _ c.word_of-4.ensures;
     hold = c.in_ok-number_or.ensures;
+    part = c.in_ok-part_of.ensures.some;
     states = c.in_ok-number_or-2.ensures;
     workers = c.in_ok-number_or-3.ensures;
     report = found_word (rows_of (found_of c.args.matches.now)) (codes "REPORT") _ c.word_of-5.ensures;

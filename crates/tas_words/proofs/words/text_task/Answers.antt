@@ -11,6 +11,9 @@ returns-in_err-word_of-in-cut c = grind (arith, common_steps)
 pub returns-in-search : goal.returns-in-search
 returns-in-search c = grind (arith, common_steps)
 
+pub returns-in-verify : goal.returns-in-verify
+returns-in-verify c = grind (arith, common_steps)
+
 pub returns-in-script : goal.returns-in-script
 returns-in-script c = grind (arith, common_steps)
 

@@ -37,4 +37,4 @@ pub returns : goal.returns
 returns g c =
     let none : c.pass_polls-polls.result.0 ≡ 0 = omega (arith, c.if-polls-gt0.false) in
     let passed = c.pass_polls-polls.ensures in
-    led_from-same g.B.Bus.device g.B.Bus.content g.B.Settle.Settles g.B.Settle.Ready g.B.Bus.fixed _ _ _ _ _ _ _ (passed.none none) passed.fixed c.perform_and_settle.ensures
+    led_from-same g.B.Bus.device g.B.Bus.content g.B.Settle.Settles g.B.Watch.is_watched g.B.Settle.Ready g.B.Bus.fixed _ _ _ _ _ _ _ (passed.none none) passed.fixed c.perform_and_settle.ensures

@@ -1,4 +1,4 @@
-use Rattle.std.proofs.Common.{◌≡◌, ℕ, suc, ◌+◌, ◌-◌, ◌/◌, ◌%◌, ◌==◌, ◌∙◌, ap, sym, subst, Bool, true, false, if◌then◌else◌, arith}
+use Rattle.std.proofs.Common.{◌≡◌, ℕ, suc, ◌+◌, ◌-◌, ◌/◌, ◌%◌, ◌==◌, ◌∙◌, ap, sym, refl, subst, Bool, true, false, if◌then◌else◌, arith}
 use Rattle.vcs_cpu.specs.declared.regs.Regs.{Regs}
 use Rattle.vcs_cpu.specs.declared.bus.Poll.{Poll}
 use Rattle.vcs_cpu.specs.Operands.{address_after}
@@ -51,5 +51,5 @@ returns-clause-some g c = λ s most regs is some settles.
     subst (λ (q : Regs). Leads d s most q before (after_load_a q c.pass_polls.result.1) (g.B.Bus.content c.pass_polls.new.self)) same
     (subst (λ (q : Regs). Leads d s most r before q (g.B.Bus.content c.pass_polls.new.self)) (sym loaded)
     (subst (λ x. Leads d s most r before (regs_after d r address branch while_zero (suc (polls - 1)) before) x) (sym content)
-    (leads_past d g.B.Bus.content g.B.Settle.Settles s settles most (polls - 1) r before before address branch while_zero code c.branch_cycles.ensures.value
+    (leads_past d g.B.Bus.content g.B.Settle.Settles g.B.Watch.is_watched s settles most (polls - 1) r before before address branch while_zero c.args.bus.now refl (passed.unwatched some) code c.branch_cycles.ensures.value
     (λ i few. passed.polls i (omega (arith, few, more))))))

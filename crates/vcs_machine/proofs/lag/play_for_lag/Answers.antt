@@ -1,5 +1,6 @@
 use Rattle.std.proofs.Common.{◌∙◌, ap, sym, refl}
 use Rattle.vcs_tia.specs.declared.chip.Tia.{Tia}
+use Rattle.vcs_tia.specs.Tia.{vsync_rose}
 use Rattle.vcs_machine.specs.Bus.{nothing_seen}
 use Rattle.vcs_machine.specs.Frame.{end_within}
 use Rattle.vcs_machine.specs.Lag.{is_ignored_within}
@@ -38,3 +39,6 @@ returns-clause-law g c =
     λ is other. lag_law c.args.cart.now c.args.state.now c.args.input other
     (lag-unhalted c.args.cart.now c.args.state.now c.args.input (sym (ap (λ (m : Machine). m.halt) c.state.view_is) ∙ c.in_default.is)
     ∙ at_frame_start (is_ignored_within nothing_seen 12160) c.args.cart.now _ c.args.state.now _ c.args.input _ _ _ tt _ c.state.view_is c.bytes.ensures.value c.pins.ensures c.start_frame.ensures refl (sym c.run_chips_noting-halt.ensures.ignored) ∙ is)
+
+pub run_chips_noting-halt-requires-clause-begun : goal.run_chips_noting-halt-requires-clause-begun
+run_chips_noting-halt-requires-clause-begun g c = ap (λ (t : Tia). vsync_rose t) c.start_frame.ensures

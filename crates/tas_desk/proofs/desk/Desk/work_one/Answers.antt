@@ -2,7 +2,7 @@ use Rattle.std.proofs.Common.{◌≡◌, length, ap, ◌∙◌, inl, inr, Err, a
 use Rattle.std.proofs.lemmas.Grind.{common_steps}
 use Rattle.tas_session.specs.declared.replies.OfferError.TheVariants.{Cartridge}
 use Rattle.tas_desk.proofs.SeatLemmas.{looked_twice}
-use Rattle.tas_desk.proofs.WorkLemmas.{never_stale}
+use Rattle.tas_desk.proofs.WorkLemmas.{never_stale, job_done, job_stale}
 use Rattle.tas_desk.proofs.desk.Desk.work_one.Goals as goal
 
 pub returns-in-Ok-clause-seat : goal.returns-in-Ok-clause-seat
@@ -23,3 +23,15 @@ returns-in-Err-Cartridge-clause-current g c = λ keeps _.
 
 pub returns-in-Ok-clause-current : goal.returns-in-Ok-clause-current
 returns-in-Ok-clause-current g c = grind (arith, common_steps)
+
+pub returns-in-Ok-clause-done : goal.returns-in-Ok-clause-done
+returns-in-Ok-clause-done g c =
+    job_done _ c.job.new.seat.front c.offer.new.seat.front c.args.near c.in_ok-job.job c.run.result c.in-Ok.offered c.job.ensures.seat.seen.begins c.offer.ensures.seat.seen.begins c.in_ok-job.ensures.job
+    (record { cart = c.run.ensures.cart; inputs = c.run.ensures.inputs; states = c.run.ensures.states }) c.in-Ok.ensures.taken (λ other. let refused = c.offer.ensures.cartridge.1 other in absurd (cc (refused, c.in-Ok.is)))
+
+pub returns-in-Err-Cartridge-clause-done : goal.returns-in-Err-Cartridge-clause-done
+returns-in-Err-Cartridge-clause-done g c =
+    let front = c.offer.new.seat.front in
+    let same : c.in-Err-Cartridge.field-0 ≡ Cartridge (length front) = elim c.in-Err-Cartridge.ensures.error [ inl same ↦ same | inr memory ↦ cc (memory, c.in-Err-Cartridge.field-0-is) ] in
+    job_stale _ c.job.new.seat.front front c.args.near c.in_ok-job.job c.run.result c.job.ensures.seat.seen.begins c.offer.ensures.seat.seen.begins c.in_ok-job.ensures.job
+    (record { cart = c.run.ensures.cart; inputs = c.run.ensures.inputs; states = c.run.ensures.states }) (c.offer.ensures.cartridge.0 (c.in-Err-Cartridge.is ∙ ap Err same))

@@ -19,7 +19,7 @@ absorb-requires-clause-new_rising g c = rw c.as_slice.ensures.value c.other.inva
 
 pub absorb-requires-clause-room : goal.absorb-requires-clause-room
 absorb-requires-clause-room g c =
-    gain_fits c.self.inside.movie c.self.inside.states.items _ _ _ _ c.self.invariant.lawful.states (c.stride.ensures.stride ∙ ap stride c.len-end.ensures.len) (omega (arith, c.len-end.ensures.len)) c.self.invariant.room
+    gain_fits c.self.inside.movie c.self.inside.states.items _ _ _ _ c.self.invariant.lawful.states (c.stride.ensures.stride ∙ ap stride c.len-end.ensures.len) (omega (arith, c.len-end.ensures.len)) (omega (arith, c.self.invariant.room))
 
 other_lawful : (g : Over) (c : goal.After-absorb g) → IsLawful c.self.inside.movie c.args.other.now
 other_lawful g c = rw (← c.self.view_is) at c.requires

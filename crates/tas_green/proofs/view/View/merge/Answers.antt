@@ -11,7 +11,7 @@ use Rattle.tas_green.proofs.view.View.merge.Goals as goal
 pub absorb-kept-requires-clause-room : goal.absorb-kept-requires-clause-room
 absorb-kept-requires-clause-room g c =
     let front = c.in-Some.ensures.front.0 in
-    gain_fits c.self.inside.movie c.self.inside.states.items _ _ _ _ c.self.invariant.lawful.states (c.stride-step.ensures.stride ∙ ap stride c.len.ensures.len) front.within_b c.self.invariant.room
+    gain_fits c.self.inside.movie c.self.inside.states.items _ _ _ _ c.self.invariant.lawful.states (c.stride-step.ensures.stride ∙ ap stride c.len.ensures.len) front.within_b (omega (arith, c.self.invariant.room))
 
 states_lawful : (g : Over) (c : goal.After-absorb-kept g) → IsLawful c.self.inside.movie c.absorb-kept.new.states.items
 states_lawful g c =

@@ -29,8 +29,8 @@ returns g c =
     subst (λ (x : DraftContent). IsDraftStateFor x now c.args.from c.args.to (Ok r)) c.self.view_is (
       omega (arith, c.if-from-to.false),
       omega (arith, len, c.if-to-len.false),
-      at,
       (if_ok _ c.state.result c.unwrap-reached.result ok e.state).1 ∙ ap (λ (m : MovieContent). state_after m c.args.from) e.movie,
+      at,
       viewed_in c.self.inside.at c.self.inside.made c.self.inside.base old new c.args.from c.args.from ran e.movie e.lawful (if_ok _ c.state.result c.unwrap-reached.result ok e.kept),
     )
 

@@ -6,6 +6,7 @@ use Rattle.vcs_machine.specs.Bus.{Observed, bus_device}
 use Rattle.vcs_machine.specs.Inside.Console.{content_of, clocks_of}
 use Rattle.vcs_machine.proofs.Lagging.{lagging-same}
 use Rattle.vcs_machine.proofs.Polling.{at, polls-before, at-polls, at-is_poll-from, at-byte}
+use Rattle.vcs_machine.proofs.Watched.{poll-unwatched}
 use Rattle.vcs_machine.proofs.bus.ConsoleBusSettle.pass_polls.Goals as goal
 
 pub invariant_of-self : goal.invariant_of-self
@@ -117,3 +118,8 @@ overflow_cast-period g c = grind (arith, common_steps)
 
 pub overflow_sub-last : goal.overflow_sub-last
 overflow_sub-last g c = grind (arith, common_steps)
+
+pub returns-clause-unwatched : goal.returns-clause-unwatched
+returns-clause-unwatched g c = λ some other.
+    poll-unwatched g.O.Observer.watches (content_of other).board c.args.poll (c.is_wait.ensures c.if-not-is_wait.false)
+    (c.is_in_cartridge.ensures.first c.if-not-is_in_cartridge.false) (c.is_in_cartridge.ensures.last c.if-not-is_in_cartridge.false) c.is_in_cartridge.ensures.fits

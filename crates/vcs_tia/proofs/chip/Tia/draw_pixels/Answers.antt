@@ -1,6 +1,5 @@
-use Rattle.std.proofs.Common.{◌≡◌, ◌+◌, ◌-◌, ◌*◌, ◌<◌, ◌∙◌, sym, ap, arith}
+use Rattle.std.proofs.Common.{◌≡◌, ◌+◌, ◌-◌, ◌*◌, ◌<◌, ◌∙◌, sym, ap, arith, get_or}
 use Rattle.vcs_tia.specs.Inside.Spans.{filled}
-use Rattle.vcs_tia.specs.Inside.Words.{byte_of}
 use Rattle.vcs_tia.specs.Tia.{colour_of_lit, lit_at}
 use Rattle.vcs_tia.proofs.Drawing.{lit_colour}
 use Rattle.vcs_tia.proofs.Fills.{filled_same, filled_more}
@@ -43,12 +42,12 @@ loop-at-preserved g c =
       to = omega arith;
       picture =
           c.put_pixels.ensures
-          ∙ ap (λ s. filled c.loop-at.picture s n (byte_of c.colours_from-colours.result)) place
-          ∙ filled_same c.loop-at.picture (start + m) n (byte_of c.colours_from-colours.result) (λ k. f (m + k))
+          ∙ ap (λ s. filled c.loop-at.picture s n (λ k. get_or c.colours_from-colours.result k 0)) place
+          ∙ filled_same c.loop-at.picture (start + m) n (λ k. get_or c.colours_from-colours.result k 0) (λ k. f (m + k))
           (λ k h.
           let inside : c.loop-at.at + k < 160 = omega arith in
           let there : c.loop-at.at + k ≡ c.args.x + (c.loop-at.at - c.args.x + k) = omega arith in
-          c.colours_from-colours.ensures k (omega arith) inside ∙ ap (λ y. colour_of_lit t (lit_at t y) y) there)
+          c.colours_from-colours.ensures.colours k (omega arith) inside ∙ ap (λ y. colour_of_lit t (lit_at t y) y) there)
           ∙ ap (λ p. filled p (start + m) n (λ k. f (m + k))) c.loop-at.invariant.picture
           ∙ filled_more c.args.picture.now start m n f
           ∙ ap (λ k. filled c.args.picture.now start k f) whole;

@@ -1,0 +1,10 @@
+use Rattle.tas_journaling_tests.proofs.shared_fault_tests.failed_with.Given as goal
+
+abbrev pub ghosts-fail_shared-N-Ledger : goal.ghosts-fail_shared-N-Ledger
+ghosts-fail_shared-N-Ledger g a = record { name = a.unopened.ledger; parts = a.unopened.seats }
+
+abbrev pub ghosts-fail_shared-N-Name : goal.ghosts-fail_shared-N-Name
+ghosts-fail_shared-N-Name g a = record { registry = a.unopened.registry }
+
+abbrev pub ghosts-fail_shared-K-JournalName : goal.ghosts-fail_shared-K-JournalName
+ghosts-fail_shared-K-JournalName g a = record { table = a.tally; head = a.journal.bytes; first = a.journal.first }

@@ -1,0 +1,4 @@
+pub mod ManifestLemmas
+pub mod RowLemmas
+pub mod WorkerLemmas
+pub mod RunLemmas
