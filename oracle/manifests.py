@@ -13,6 +13,7 @@ from readings import MOST
 STRETCH = re.compile(rb"(?:[^\n]*\n){4}frames 0 to ([1-9][0-9]{0,6}) ")
 SHA256 = re.compile(rb"[0-9a-f]{64}")
 HEAD = 4  # lines before the first stretch
+REMARKS = ("",) * 12 + ("#", "  # as ever", "  # a\ttab", " #\t") * 2 + ("\t# a fault",)
 
 
 # ---- reading
@@ -56,9 +57,9 @@ def compared(now, stored, every):
 def some_manifest(rng, cart, movies, digests):
     """A manifest of movies with these names; it may be spoilt."""
     carts = ["cart", "cart", sha256(cart).hexdigest(), sha256(cart).hexdigest(), "0" * 64, "gone", rng.choice(movies)]
-    lines = [rng.choice(("", "# a remark", "  # another one"))] * rng.randrange(2)
+    lines = [rng.choice(("", "# a remark", "  # another one", "  ", "# a\ttab", "\t# a fault") if rng.random() < 0.2 else ("", "# a remark", "  # another one"))] * rng.randrange(2)
     for _ in range(rng.choice((0, 1, 1, 2, 5, 40))):
         words = [rng.choice(movies * 4 + ["gone", "cart"]), rng.choice(carts), rng.choice(digests * 4 + ["gone", "cart"])]
-        lines.append(rng.choice(" \t").join(words) + rng.choice(("", "", "", "#", "  # as ever")))
+        lines.append(rng.choice(" \t").join(words) + rng.choice(REMARKS))
     text = "".join(line + "\n" for line in lines).encode()
     return spoiling.spoilt(rng, text) if rng.random() < 0.35 else text

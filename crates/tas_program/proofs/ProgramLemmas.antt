@@ -17,7 +17,7 @@ use Rattle.tas_words.specs.declared.task.Task.{Task}
 use Rattle.tas_words.specs.Invocations.{AreGiven, IsInvocation, IsNoTask}
 use Rattle.tas_program.specs.Program.{IsAskedBy, end_status, OneFileRun, TwoFilesRun, FilesRun, EndsOver, OverOne, OverTwo, IsRunOfFiles, IsSaveRun, IsTaskRun, RunsAfter, TaskEnds, talk_of}
 use Rattle.tas_program.specs.declared.status.TaskFault.{TaskFault}
-use Rattle.tas_program.specs.declared.status.TaskFault.TheVariants.{Word, Tool, Search as NotSearched, Recover as NotRecovered, Verify as NotVerified, NoCarts, NotAll, Report, NoReport, NoJournal, Journal as NotNoted, Save as NotSaved}
+use Rattle.tas_program.specs.declared.status.TaskFault.TheVariants.{Word, Tool, Search as NotSearched, Recover as NotRecovered, Verify as NotVerified, NoCarts, NotAll, Report, NoReport, UnsyncedReport, NoJournal, Journal as NotNoted, Save as NotSaved}
 use Rattle.tas_program.specs.declared.file_words.Permit.{Permit}
 use Rattle.tas_program.specs.declared.file_words.WordFault.{WordFault}
 use Rattle.tas_program.specs.FileWords.{WordsEnd, first_fault}
@@ -50,6 +50,7 @@ task_ends steps files chosen old new (Err NoCarts) ran = (NoCarts, tt, ran)
 task_ends steps files chosen old new (Err NotAll) ran = (NotAll, tt, ran)
 task_ends steps files chosen old new (Err (Report fault)) ran = (Report fault, tt, ran)
 task_ends steps files chosen old new (Err NoReport) ran = (NoReport, tt, ran)
+task_ends steps files chosen old new (Err UnsyncedReport) ran = (UnsyncedReport, tt, ran)
 task_ends steps files chosen old new (Err NoJournal) ran = (NoJournal, tt, ran)
 task_ends steps files chosen old new (Err (NotNoted fault)) ran = (NotNoted fault, tt, ran)
 task_ends steps files chosen old new (Err (NotSaved fault)) (seen, are, ran) = absurd (go (first_fault seen) ran)

@@ -31,8 +31,8 @@ use Rattle.tas_program.proofs.NotedLemmas.{no_talk_fault}
 use Rattle.tas_program.proofs.VerifyLemmas.{no_verify_fault}
 use Rattle.tas_movie.specs.Content.{MovieContent}
 use Rattle.tas_words.specs.declared.task.TalkWords.{TalkWords}
-use Rattle.tas_program.specs.Saving.{FileSteps, unknown_steps}
-use Rattle.tas_program.specs.Searching.{BreaksOff, IsReportFile, Reports, ReportsVerdict, RunsSearch, Searches, SearchesOver, bytes_end, search_end, search_files}
+use Rattle.tas_program.specs.Saving.{FileSteps}
+use Rattle.tas_program.specs.Searching.{BreaksOff, KeepsFile, KeepsReport, Reports, ReportsVerdict, RunsSearch, SearchEnds, Searches, SearchesOver, bytes_end, search_end, search_files}
 use Rattle.tas_program.specs.Streams.{StreamBytes}
 
 -- the same end of a run, its verdict as bytes
@@ -52,23 +52,6 @@ pub searched : (files : FileBytes) (words : SearchWords) (taken left : List (Opt
     → SearchesOver words taken left old new logs logs' end → Searches files words old new logs logs' end
 searched files words taken left old new logs logs' end is ran = inr (left, subst (λ (l : List (Option (List ℕ))). SearchesOver words l left old new logs logs' end) is ran)
 
--- nothing need be known of the steps by which the report's file was made
-pub any_steps : (steps : FileSteps) (files : FileBytes) (words : SearchWords) (old new : StreamBytes) (told told' : Option (List ℕ)) (end : Result (Unit {0}) TaskFault) → RunsSearch steps files words old new told told' end
-    → RunsSearch unknown_steps files words old new told told' end
-any_steps steps files words old new told told' end (inl none) = inl none
-any_steps steps files words old new told told' end (inr (held, held', made, ends)) = inr (held, held', unknown words.report, ends)
-  where
-    unknown : (name : Option (Bor (List ℕ))) → IsReportFile unknown_steps name held
-    unknown None = tt
-    unknown (Some name) = tt
-
--- the same of any task that reports
-pub any_reported : (steps : FileSteps) (files : FileBytes) (words : Reported) (old new : StreamBytes) (told told' : Option (List ℕ)) (end : Result (Unit {0}) TaskFault) → ReportedEnds steps files words old new told told' end
-    → ReportedEnds unknown_steps files words old new told told' end
-any_reported steps files (reported.Search words) old new told told' end ends = any_steps steps files words old new told told' end ends
-any_reported steps files (reported.Recovery words) old new told told' end ends = ends
-any_reported steps files (reported.Verification words) old new told told' end ends = ends
-
 -- a recovery ran over a cartridge that is open, up to this line
 pub recovered_over : (until : Option ℕ) (line : ℕ) (cart cart' input input' output output' : Option (List ℕ)) (done : Result Recovery RecoveryFault) (end : Result (List ℕ) TaskFault) → line ≡ first_left_out until → IsRecoveryEnd done end
     → IsRecoveryRun GlobalType line cart cart' input input' output output' done → RecoversOver until cart cart' input input' output output' end
@@ -81,7 +64,7 @@ recovered files words cart left old new end is ran = inr (left, subst (λ (c : O
 
 -- the engine of a task that reports, a conversation, and the engine of any other task
 pub ends_reported : (steps : FileSteps) (files : FileBytes) (chosen : Task) (words : Reported) (told told' : Option (List ℕ)) (old new : StreamBytes) (end : Result (Unit {0}) TaskFault) → reported_of chosen ≡ Some words
-    → ReportedEnds unknown_steps files words old new told told' end → EngineEnds steps files (reported_of chosen) (talk_of chosen) chosen old new end
+    → ReportedEnds steps files words old new told told' end → EngineEnds steps files (reported_of chosen) (talk_of chosen) chosen old new end
 ends_reported steps files chosen words told told' old new end is ends = subst (λ (o : Option Reported). EngineEnds steps files o (talk_of chosen) chosen old new end) (sym is) (told, told', ends)
 
 pub ends_talk : (steps : FileSteps) (files : FileBytes) (chosen : Task) (words : TalkWords) (left : Option MovieContent) (old new : StreamBytes) (end : Result (Unit {0}) TaskFault) → reported_of chosen ≡ None → talk_of chosen ≡ Some words
@@ -119,6 +102,13 @@ no_recovery_fault files words old new done fault (inr (left, (Ok said, inl ended
 no_recovery_fault files words old new done fault (inr (left, (Ok said, inr refused, ran))) is = cc
 no_recovery_fault files words old new done fault (inr (left, (Err e, ended, ran))) is = cc
 
+-- nor does bringing the file of a report to the disk
+no_kept_fault : (steps : FileSteps) (name : Option (Bor (List ℕ))) (held' : Option (List ℕ)) (done : Result (Unit {0}) TaskFault) (fault : SaveFault) → (done ≡ Err (NotSaved fault) → ⊥) → KeepsReport steps name held' done (Err (NotSaved fault)) → ⊥
+no_kept_fault steps None held' done fault none is = none (sym is)
+no_kept_fault steps (Some name) held' (Ok u) fault none (inl (is, kept)) = cc
+no_kept_fault steps (Some name) held' (Ok u) fault none (inr is) = cc
+no_kept_fault steps (Some name) held' (Err other) fault none is = none (sym is)
+
 -- no engine ends with a fault of a file that was to be replaced
 pub no_save_fault : (steps : FileSteps) (files : FileBytes) (asked : Option Reported) (talk : Option TalkWords) (chosen : Task) (old new : StreamBytes) (fault : SaveFault) → EngineEnds steps files asked talk chosen old new (Err (NotSaved fault)) → ⊥
 no_save_fault steps files None None chosen old new fault (Ok u, is, does) = cc
@@ -128,11 +118,31 @@ no_save_fault steps files (Some (reported.Search words)) talk chosen old new fau
   where
     other_end : ◌≡◌ {A = Result (Unit {0}) TaskFault} (Err (NotSaved fault)) (Err NoReport) → ⊥
     other_end e = cc
-no_save_fault steps files (Some (reported.Search words)) talk chosen old new fault (told, told', inr (held, held', made, ends)) =
-    no_verdict_fault ends.done fault ends.mid (log_bytes told' held') (no_search_fault files words old new (log_bytes told held) ends.mid ends.done fault ends.searches) ends.reports
+no_save_fault steps files (Some (reported.Search words)) talk chosen old new fault (told, told', inr into) =
+    no_kept_fault steps words.report into.held' into.done fault
+    (no_verdict into.ends)
+    into.kept
+  where
+    no_verdict : SearchEnds files words old new (log_bytes told into.held) (log_bytes told' into.held') into.done → into.done ≡ Err (NotSaved fault) → ⊥
+    no_verdict ends is =
+        no_verdict_fault ends.done fault ends.mid (log_bytes told' into.held') (no_search_fault files words old new (log_bytes told into.held) ends.mid ends.done fault ends.searches)
+        (subst (λ (e : Result (Unit {0}) TaskFault). ReportsVerdict ends.done ends.mid (log_bytes told' into.held') e) is ends.reports)
 no_save_fault steps files (Some (reported.Recovery words)) talk chosen old new fault (told, told', ends) =
     not_reported ends.done fault told told' (no_recovery_fault files words old new ends.done fault ends.recovers) ends.reports
 no_save_fault steps files (Some (reported.Verification words)) talk chosen old new fault (told, told', ends) = no_verify_fault files.read words.carts old new fault ends
+
+-- ---- the file of a report
+
+-- a search without one, and with one, which was made by a step
+pub runs_alone : (steps : FileSteps) (files : FileBytes) (words : SearchWords) (old new : StreamBytes) (told told' held held' : Option (List ℕ)) (end : Result (Unit {0}) TaskFault) → words.report ≡ None
+    → SearchEnds files words old new (log_bytes told held) (log_bytes told' held') end → RunsSearch steps files words old new told told' end
+runs_alone steps files words old new told told' held held' end is ends =
+    inr (record { held = held; held' = held'; done = end; made = rw is tt; ends = ends; kept = rw is refl })
+
+pub runs_into : (steps : FileSteps) (files : FileBytes) (words : SearchWords) (name : Bor (List ℕ)) (old new : StreamBytes) (told told' held held' : Option (List ℕ)) (done end : Result (Unit {0}) TaskFault) → words.report ≡ Some name
+    → steps.made name.now held → SearchEnds files words old new (log_bytes told held) (log_bytes told' held') done → KeepsFile steps name.now held' done end → RunsSearch steps files words old new told told' end
+runs_into steps files words name old new told told' held held' done end is made ends kept =
+    inr (record { held = held; held' = held'; done = done; made = rw is made; ends = ends; kept = rw is kept })
 
 -- ---- the verdict
 

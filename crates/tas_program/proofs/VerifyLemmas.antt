@@ -3,6 +3,8 @@ use Rattle.std.proofs.Common.{◌≡◌, ℕ, List, [], ◌∷◌, ◌++◌, len
 use Rattle.std.specs.Prelude.{Bool, true, false, if◌then◌else◌, ◌==◌, slice_index_or}
 use Rattle.std.specs.Borrow.{Bor}
 use Rattle.std.proofs.lemmas.List.Elements.{All-push}
+use Rattle.byte_text.specs.Splitting.{NoByte}
+use Rattle.byte_text.proofs.SplitLemmas.{no_parts}
 use Rattle.tas_verify.specs.declared.carts.Cart.{Cart}
 use Rattle.tas_verify.specs.declared.fault.VerifyFault.{VerifyFault}
 use Rattle.tas_verify.specs.declared.lines.Tally.{Tally}
@@ -51,3 +53,12 @@ pub verified_in : {X : Type 0} (bytes : X → List ℕ) (read : List ℕ → Opt
     → All (λ p. IsIn dir (bytes p)) paths → ((d : List ℕ) → All (λ p. IsIn d (bytes p)) shown → AreIn d carts) → used ≡ carts → VerifiesBy (shelf_by read used) old new end → VerifiesIn read dir old new end
 verified_in bytes read dir paths shown carts used old new end same all among is by =
     inr (carts, among dir (subst (All (λ p. IsIn dir (bytes p))) (sym same) all), subst (λ (l : List Cart). VerifiesBy (shelf_by read l) old new end) is by)
+
+-- a name that is split at a slash has one
+pub has_slash : (name front rest : List ℕ) → name ≡ front ++ 47 ∷ rest → NoByte 47 name → ⊥
+has_slash name front rest is none = no_parts 47 front rest (subst (NoByte 47) is none)
+
+-- one more path of a directory
+pub path_more : {X : Type 0} (bytes : X → List ℕ) (dir name : List ℕ) (old new : List X) (path : X) → new ≡ old ++ path ∷ [] → bytes path ≡ dir ++ 47 ∷ name → NoByte 47 name
+    → All (λ p. IsIn dir (bytes p)) old → All (λ p. IsIn dir (bytes p)) new
+path_more bytes dir name old new path more is none all = all_more (λ p. IsIn dir (bytes p)) old new path more all (name, none, is)

@@ -49,14 +49,14 @@ use Rattle.tas_words.specs.declared.task.Start.TheVariants.{Blank, Cart, Movie}
 use Rattle.clap.specs.Walk.{Text}
 use Rattle.tas_words.specs.Invocations.{AreGiven, IsInvocation}
 use Rattle.tas_program.specs.declared.status.TaskFault.{TaskFault}
-use Rattle.tas_program.specs.declared.status.TaskFault.TheVariants.{Word, Tool, Search as NotSearched, Recover as NotRecovered, Verify as NotVerified, NoCarts, NotAll, Report, NoReport, NoJournal, Journal as NotNoted, Save as NotSaved}
+use Rattle.tas_program.specs.declared.status.TaskFault.TheVariants.{Word, Tool, Search as NotSearched, Recover as NotRecovered, Verify as NotVerified, NoCarts, NotAll, Report, NoReport, UnsyncedReport, NoJournal, Journal as NotNoted, Save as NotSaved}
 use Rattle.tas_program.specs.declared.file_words.WordFault.{WordFault}
 use Rattle.tas_program.specs.declared.file_words.SeenWord.{SeenWord}
 use Rattle.tas_program.specs.declared.saving.SaveFault.{SaveFault}
 use Rattle.tas_program.specs.declared.folder.OrdinaryFile.{OrdinaryFile}
 use Rattle.tas_program.specs.FileWords.{AreSeen, IsSeen, fault_or, first_fault}
 use Rattle.tas_program.specs.OutputWords.{AreInputsSeen, output_fault}
-use Rattle.tas_program.specs.Saving.{Files, FileSteps, SaveEnds, unknown_steps}
+use Rattle.tas_program.specs.Saving.{Files, FileSteps, SaveEnds}
 use Rattle.tas_program.specs.Noting.{NotesTalk}
 use Rattle.tas_program.specs.Files.{FileBytes}
 use Rattle.tas_program.specs.Reporting.{ReportedEnds, reported_of}
@@ -85,6 +85,7 @@ end_status (Err NoCarts) = Fault
 end_status (Err NotAll) = Fault
 end_status (Err (Report fault)) = Fault
 end_status (Err NoReport) = Fault
+end_status (Err UnsyncedReport) = Fault
 end_status (Err NoJournal) = Fault
 end_status (Err (NotNoted fault)) = Fault
 end_status (Err (NotSaved fault)) = Fault
@@ -189,10 +190,10 @@ LeavesWords steps files words left old new end = LeavesBy steps files words.star
 
 -- ---- any task
 
--- the engine of a task was run: that of a search, a recovery or a verification, which reports to some writer, of which nothing is said here; a conversation was held, its
--- journal's file made by steps of the folder; or that of another task
+-- the engine of a task was run: that of a search, a recovery or a verification, which reports to some writer, of which nothing is said here, the file of a search's
+-- report made and brought to the disk by steps of the folder; a conversation was held, its journal's file made by such steps; or that of another task
 abbrev pub EngineEnds : FileSteps → FileBytes → Option Reported → Option TalkWords → Task → StreamBytes → StreamBytes → Result (Unit {0}) TaskFault → Type 0
-EngineEnds steps files (Some words) talk chosen old new end = (told told' : Option (List ℕ)) × ReportedEnds unknown_steps files words old new told told' end
+EngineEnds steps files (Some words) talk chosen old new end = (told told' : Option (List ℕ)) × ReportedEnds steps files words old new told told' end
 EngineEnds steps files None (Some words) chosen old new end = (left : Option MovieContent) × LeavesWords steps files words left old new end
 EngineEnds steps files None None chosen old new end = (done : Result (Unit {0}) ToolFault) × (end ≡ tool_end done) × DoesTask files chosen old new done
 
@@ -295,6 +296,7 @@ IsEngineFault NoCarts = Unit {0}
 IsEngineFault NotAll = Unit {0}
 IsEngineFault (Report fault) = Unit {0}
 IsEngineFault NoReport = Unit {0}
+IsEngineFault UnsyncedReport = Unit {0}
 IsEngineFault NoJournal = Unit {0}
 IsEngineFault (NotNoted fault) = Unit {0}
 IsEngineFault _ = ⊥

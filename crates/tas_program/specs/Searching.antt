@@ -12,7 +12,7 @@ use Rattle.tas_search.specs.Logs.{LogBytes, Logged, log_bytes}
 use Rattle.tas_search.specs.SearchRun.{IsSearchRun}
 use Rattle.tas_words.specs.declared.task.SearchWords.{SearchWords}
 use Rattle.tas_program.specs.declared.status.TaskFault.{TaskFault}
-use Rattle.tas_program.specs.declared.status.TaskFault.TheVariants.{Tool, Search as NotSearched, Report, NoReport}
+use Rattle.tas_program.specs.declared.status.TaskFault.TheVariants.{Tool, Search as NotSearched, Report, NoReport, UnsyncedReport}
 use Rattle.tas_program.specs.Files.{FileBytes}
 use Rattle.tas_program.specs.Saving.{FileSteps}
 use Rattle.tas_program.specs.Streams.{StreamBytes}
@@ -99,8 +99,27 @@ pub record HasNoReport (words : SearchWords) (old new : StreamBytes) (told told'
   pub streams : new ≡ old
   pub errors : told' ≡ told
 
--- a search ends, with its report written to standard error, which held some bytes before and holds some afterwards, and to a new file if one is named
+-- the end of a search whose report went to a file of this name, too, whose writer then held these bytes: a good one only where all of them were brought
+-- to the disk; where that failed, its fault; and a search that ended with a fault ends with that
+abbrev pub KeepsFile : FileSteps → (name : List ℕ) → (held' : Option (List ℕ)) → (done end : Result (Unit {0}) TaskFault) → Type 0
+KeepsFile steps name held' (Ok u) end = ((end ≡ Ok tt) × steps.kept name held') ⊎ (end ≡ Err UnsyncedReport)
+KeepsFile steps name held' (Err fault) end = end ≡ Err fault
+
+-- the same of a search with a file or without one
+abbrev pub KeepsReport : FileSteps → Option (Bor (List ℕ)) → (held' : Option (List ℕ)) → (done end : Result (Unit {0}) TaskFault) → Type 0
+KeepsReport steps None held' done end = end ≡ done
+KeepsReport steps (Some name) held' done end = KeepsFile steps name.now held' done end
+
+-- a search ends, with its report written to standard error, which held some bytes before and holds some afterwards, and to a new file if one is named;
+-- before a good end, all that this file's writer holds then was brought to the disk
+pub record SearchesInto (steps : FileSteps) (files : FileBytes) (words : SearchWords) (old new : StreamBytes) (told told' : Option (List ℕ)) (end : Result (Unit {0}) TaskFault) : Type 0 where
+  pub held : Option (List ℕ)
+  pub held' : Option (List ℕ)
+  pub done : Result (Unit {0}) TaskFault
+  pub made : IsReportFile steps words.report held
+  pub ends : SearchEnds files words old new (log_bytes told held) (log_bytes told' held') done
+  pub kept : KeepsReport steps words.report held' done end
+
+-- the report's file can't be made, or the search runs with it
 abbrev pub RunsSearch : FileSteps → FileBytes → SearchWords → (old new : StreamBytes) → (told told' : Option (List ℕ)) → Result (Unit {0}) TaskFault → Type 0
-RunsSearch steps files words old new told told' end =
-    HasNoReport words old new told told' end
-    ⊎ ((held held' : Option (List ℕ)) × IsReportFile steps words.report held × SearchEnds files words old new (log_bytes told held) (log_bytes told' held') end)
+RunsSearch steps files words old new told told' end = HasNoReport words old new told told' end ⊎ SearchesInto steps files words old new told told' end

@@ -1,6 +1,7 @@
 -- A verification: where the files of its movies come from, and how it ends.
-use Rattle.std.specs.Prelude.{◌≡◌, ℕ, ◌==◌, if◌then◌else◌, List, [], ◌∷◌, ◌++◌, All, ◌⊎◌, Option, Some, None, Result, Ok, Err, option_and_then}
+use Rattle.std.specs.Prelude.{◌≡◌, ℕ, ◌==◌, if◌then◌else◌, List, [], ◌∷◌, ◌++◌, All, ◌⊎◌, Option, Some, None, IsSome, Result, Ok, Err, option_and_then}
 use Rattle.std.specs.Borrow.{Bor}
+use Rattle.byte_text.specs.Splitting.{NoByte}
 use Rattle.tas_verify.specs.declared.carts.Cart.{Cart}
 use Rattle.tas_verify.specs.declared.fault.VerifyFault.{VerifyFault}
 use Rattle.tas_verify.specs.declared.fault.VerifyFault.TheVariants.{Memory}
@@ -13,15 +14,22 @@ use Rattle.tas_program.specs.declared.status.TaskFault.{TaskFault}
 use Rattle.tas_program.specs.declared.status.TaskFault.TheVariants.{NoCarts, NotAll, Verify as NotVerified}
 use Rattle.tas_program.specs.Streams.{StreamBytes}
 
--- what is known of a folder whose files have these bytes, by their names, where some are cartridges with a SHA-256: one is the first of them with it
+-- what is known of a folder whose files have these bytes, by their names, where some are cartridges with a SHA-256: there is one where one of them
+-- has it, and it is the first
 abbrev pub shelf_by : (read : List ℕ → Option (List ℕ)) → List Cart → ShelfFacts
-shelf_by read carts = record { held = read; lacks = λ name. Unit {0}; found = λ digits. option_and_then read (name_of carts digits); misses = λ digits. Unit {0} }
+shelf_by read carts = record {
+  held = read;
+  lacks = λ name. Unit {0};
+  found = λ digits. option_and_then read (name_of carts digits);
+  finds = λ digits. IsSome (name_of carts digits);
+  misses = λ digits. Unit {0};
+}
 
--- the name of a file in a directory
+-- the name of a file right in a directory: the directory's, a slash, and a name without one
 abbrev pub IsIn : (dir name : List ℕ) → Type 0
-IsIn dir name = (file : List ℕ) × (name ≡ dir ++ 47 ∷ file)
+IsIn dir name = (file : List ℕ) × NoByte 47 file × (name ≡ dir ++ 47 ∷ file)
 
--- all are files in a directory
+-- all are files right in a directory
 abbrev pub AreIn : List ℕ → List Cart → Type 0
 AreIn dir carts = All (λ cart. IsIn dir cart.name.now) carts
 

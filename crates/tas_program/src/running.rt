@@ -289,8 +289,9 @@ pub fn run_task<
     streams: &mut Streams<R, W, E>,
 ) -> Result<(), TaskFault>
     // A command is done by its engine, over its files and standard input, with its own numbers, but for an export's
-    // WORKERS, on which no answer depends. That the report of a search is written is a clause of `run_search` alone,
-    // and that the report of a recovery is one of `run_recovery`.
+    // WORKERS, on which no answer depends. The file of a search's report is made, gets the report and is brought to the disk
+    // by steps of the folder, as `run_search` says; that standard error gets it is a clause of `run_search` alone, and that
+    // the report of a recovery is written is one of `run_recovery`.
     // Refused: check_draws_the_first_frame*, each_file_is_the_first, migration_is_answered_as_check*,
     // talk_is_run_as_a_script*, shot_of_the_frame_before, script_and_cartridge_are_swapped*,
     // movie_and_cartridge_of_a_script_are_swapped*, film_starts_at_its_end, ram_ends_before_its_last_line*,
@@ -370,6 +371,7 @@ fn report<A: Allocator, E: Write>(alloc: A, errors: &mut E, end: Result<(), Task
                 TaskFault::NotAll => Status::Fault,
                 TaskFault::Report(_) => Status::Fault,
                 TaskFault::NoReport => Status::Fault,
+                TaskFault::UnsyncedReport => Status::Fault,
                 TaskFault::NoJournal => Status::Fault,
                 TaskFault::Journal(_) => Status::Fault,
                 TaskFault::Save(_) => Status::Fault,

@@ -5,13 +5,14 @@
 //! sequences the script is the best. So a search whose report can't be written ends with a fault, while the line of a fault that can't be
 //! written changes nothing. With `--report` a new file gets the same lines as they are made: after a signal it has whole lines. The file
 //! must be new, so nothing that is there is written over. It is made before the others are opened: where it is also the name of another word,
-//! whose file is missing, that is read as an empty file.
+//! whose file is missing, that is read as an empty file. It is brought to the disk once, at the end: a search can be made again, so no line
+//! waits for the disk, but a good end promises that its report is there.
 
 ghost use Rattle.std.specs.Prelude.{◌≡◌, ◌⊎◌, map, IfOk, IfErr};
 ghost use Rattle.tas_program.specs.Files.{files_by};
 ghost use Rattle.tas_program.specs.Program.{EngineEnds, talk_of};
 ghost use Rattle.tas_program.specs.Reporting.{ReportedEnds, reported_of};
-ghost use Rattle.tas_program.specs.Searching.{IsAskedFor, Reports, ReportsVerdict, RunsSearch, SearchEnds, Searches, SearchesOver, bytes_end, search_files};
+ghost use Rattle.tas_program.specs.Searching.{IsAskedFor, KeepsFile, Reports, ReportsVerdict, RunsSearch, SearchEnds, Searches, SearchesOver, bytes_end, search_files};
 ghost use Rattle.tas_search.specs.Logs.{log_bytes};
 
 use crate::noted_talks::hold_words;
@@ -226,13 +227,37 @@ fn remove_empty<F: Folder>(permit: Permit, folder: &F, name: &str) {
     }
 }
 
+/// Ends a search whose report went to the file of this name, too: where it is done, the file is brought to the disk; else it is removed if it
+/// has no bytes.
+fn close_report<F: Folder>(
+    permit: Permit,
+    folder: &F,
+    name: &str,
+    file: &mut F::Sink,
+    done: Result<(), TaskFault>,
+) -> Result<(), TaskFault>
+    ensures { KeepsFile F.steps name.now (F.Sink.contents file.old) done result }
+{
+    match done {
+        Err(fault) => {
+            remove_empty(permit, folder, name);
+            Err(fault)
+        }
+        Ok(()) => match folder.sync(name, file) {
+            Err(_) => Err(TaskFault::UnsyncedReport),
+            Ok(()) => Ok(()),
+        },
+    }
+}
+
 /// Does a search: makes the file of its report where the words name one, opens its files, reads them and the input, writes a line for each
 /// layer to `errors` and to the report as it goes, the script that makes the best inputs to the output, and then the verdict, a line, where the
-/// others went.
+/// others went. At last it brings the report's file to the disk.
 ///
 /// Faults: `NoReport` where the report's file can't be made, since there is one of its name, say, and then nothing is opened; `Tool` where a
 /// file can't be opened, `Search` of the search, and then the report has no verdict; `Report` where the verdict isn't written whole, and then
-/// the script is. A file of a report that has no line at a fault is removed.
+/// the script is; `UnsyncedReport` where the file isn't brought to the disk, and then all is written. A file of a report that has no line at a
+/// fault is removed.
 pub fn run_search<T: Threads + Clock + Sync, F: Folder, R: Read, W: Write, E: Write>(
     rt: &T,
     alloc: Global,
@@ -244,11 +269,13 @@ pub fn run_search<T: Threads + Clock + Sync, F: Folder, R: Read, W: Write, E: Wr
     errors: &mut E,
 ) -> Result<(), TaskFault>
     // A search is done by `search_run`, over the files that its words name, the input and the output, with its own numbers and
-    // goal. It is done only where its report, the lines of the layers and the verdict, is written whole to `errors`, and to a new file
-    // where the words name one, as the folder states its steps.
+    // goal. It is done only where its report, the lines of the layers and the verdict, is written whole to `errors`, and where the
+    // words name a file, to the writer of a new one of this name, which was brought to the disk with all that this writer holds, as
+    // the folder states its steps.
     // Refused: verdict_is_left_out, unwritten_verdict_is_a_good_end, verdict_goes_to_standard_output,
     // names_file_is_read_for_the_choices, each_choice_is_held_for_one_frame, every_part_is_the_first,
-    // search_keeps_as_many_states_as_it_has_frames, report_file_is_left_out.
+    // search_keeps_as_many_states_as_it_has_frames, report_file_is_left_out, report_is_not_brought_to_the_disk,
+    // unsynced_report_is_a_good_end.
     ensures { RunsSearch F.steps
         (files_by (F.bytes_of folder.now) (F.held_by folder.now) (F.shown folder.now)) words.entry
         (record { input = R.remaining input.old; output = W.contents output.old })
@@ -273,11 +300,8 @@ pub fn run_search<T: Threads + Clock + Sync, F: Folder, R: Read, W: Write, E: Wr
             let Ok(mut file) = folder.create_new(permit, name) else {
                 return Err(TaskFault::NoReport);
             };
-            let end = search_with(rt, alloc, words, folder, input, output, errors, &mut file);
-            if end.is_err() {
-                remove_empty(permit, folder, name);
-            }
-            end
+            let done = search_with(rt, alloc, words, folder, input, output, errors, &mut file);
+            close_report(permit, folder, name, &mut file, done)
         }
     }
 }

@@ -41,6 +41,9 @@ pub enum TaskFault {
     /// It is a search, and the file of its report can't be made: the status is 1, and nothing is read.
     #[error("fault: report: not created")]
     NoReport,
+    /// It is a search that is written whole, as is its report, but the report's file couldn't be brought to the disk: the status is 1.
+    #[error("fault: report: sync failed")]
+    UnsyncedReport,
     /// It is a conversation, and the file of its journal can't be made: the status is 1, and nothing is read.
     #[error("fault: journal: not created")]
     NoJournal,

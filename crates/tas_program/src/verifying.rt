@@ -5,10 +5,12 @@
 //! changes in the directory later isn't seen, but for a file that has other bytes when it is opened for a movie: that isn't taken. How far it is goes to
 //! standard error, if that is a terminal.
 
-ghost use Rattle.std.specs.Prelude.{◌≡◌, ℕ, List, All, string_bytes, OnOk, IfOk, IfErr};
+ghost use Rattle.std.specs.Prelude.{◌≡◌, ◌↔◌, ◌++◌, ◌∷◌, ℕ, List, All, IsTrue, string_bytes, OnOk, IfOk, IfErr};
+ghost use Rattle.byte_text.specs.Splitting.{NoByte};
 ghost use Rattle.tas_program.specs.Verifying.{AreIn, IsIn, IsMore, IsUnlisted, VerifiesBy, VerifiesIn, VerifyEnds, shelf_by, verified_end};
 
 use crate::{Folder, TaskFault};
+use byte_text::split_once;
 use std::alloc::{AllocError, Global};
 use std::io::{Read, Write, sink};
 use std::thread::Threads;
@@ -39,7 +41,7 @@ impl<F: Folder> Shelf for Library<'_, F> {
     }
 
     // A cartridge is opened by the name of the first file with its SHA-256.
-    // Refused: each_cartridge_of_an_archive_is_the_same.
+    // Refused: each_cartridge_of_an_archive_is_the_same, cartridge_is_there_without_its_sha256.
     fn find(&self, digits: &[u8]) -> Option<F::File> {
         match name_of(self.carts, digits) {
             Some(name) => self.folder.open(name).ok(),
@@ -48,12 +50,40 @@ impl<F: Folder> Shelf for Library<'_, F> {
     }
 }
 
+/// Whether this can be the name of a file right in a directory: it has no slash.
+fn is_file_name(name: &str) -> bool
+    ensures { IsTrue result ↔ NoByte 47 name.now }
+{
+    match split_once(name.as_bytes(), b'/') {
+        Some(_) => false,
+        None => true,
+    }
+}
+
 /// The name of a file in a directory.
 fn path_of(alloc: Global, dir: &str, name: &str) -> Result<String, AllocError>
-    ensures { IfOk result (λ path. IsIn dir.now (string_bytes path)) }
+    ensures { IfOk result (λ path. string_bytes path ≡ dir.now ++ 47 ∷ name.now) }
 {
     let path = format!(in alloc; "{dir}/{name}")?;
     Ok(path)
+}
+
+/// Adds the name of a file in a directory, with the directory's; nothing where it has a slash, which no file's name has.
+fn push_path(alloc: Global, dir: &str, name: &str, paths: &mut Vec<String>) -> Result<(), TaskFault>
+    ensures paths { OnOk result (All (λ path. IsIn dir.now (string_bytes path)) paths.old.items
+        → All (λ path. IsIn dir.now (string_bytes path)) paths.new.items) }
+    ensures fault { IfErr result IsUnlisted }
+{
+    if !is_file_name(name) {
+        return Ok(());
+    }
+    let Ok(path) = path_of(alloc, dir, name) else {
+        return Err(TaskFault::Verify(VerifyFault::Memory));
+    };
+    let Ok(()) = paths.push(path) else {
+        return Err(TaskFault::Verify(VerifyFault::Memory));
+    };
+    Ok(())
 }
 
 /// The names of what is in a directory, each with the directory's.
@@ -66,12 +96,7 @@ fn paths_in<F: Folder>(alloc: Global, folder: &F, dir: &str) -> Result<Vec<Strin
     };
     let mut paths = Vec::new(alloc);
     for name in names.as_slice() {
-        let Ok(path) = path_of(alloc, dir, name.as_str()) else {
-            return Err(TaskFault::Verify(VerifyFault::Memory));
-        };
-        let Ok(()) = paths.push(path) else {
-            return Err(TaskFault::Verify(VerifyFault::Memory));
-        };
+        push_path(alloc, dir, name.as_str(), &mut paths)?;
     }
     Ok(paths)
 }
@@ -198,7 +223,8 @@ fn verify_in<T: Threads + Clock + Sync, F: Folder + Sync, R: Read, W: Write, E: 
 /// many workers as the words say, and writes a line for each movie and a last line to the output.
 ///
 /// Faults: `NoCarts` where the directory can't be listed, or memory is refused for that; `Verify` of the verification, and its `Memory` where
-/// memory is refused for the cartridges: nothing is read then; `NotAll` where all lines are written and not all movies are the same.
+/// memory is refused for the list of names or of cartridges: the manifest isn't read then; `NotAll` where all lines are written and not all movies
+/// are the same. A file for whose bytes memory is refused is left out, like one that can't be read.
 pub fn run_verify<T: Threads + Clock + Sync, F: Folder + Sync, R: Read, W: Write, E: Write>(
     rt: &T,
     alloc: Global,
@@ -209,10 +235,10 @@ pub fn run_verify<T: Threads + Clock + Sync, F: Folder + Sync, R: Read, W: Write
     errors: &mut E,
 ) -> Result<(), TaskFault>
     // A verification is done by `verify_run`, over the folder's files, the manifest on the input and the output. A cartridge that
-    // is named by its SHA-256 is a file of the directory that the words name, and none is found where they name none. It is done
-    // only where all movies are the same.
+    // is named by its SHA-256 is a file right in the directory that the words name, and none is found where they name none. It is
+    // done only where all movies are the same.
     // Refused: verification_with_a_difference_is_a_good_end, verification_without_an_answer_is_a_good_end,
-    // cartridge_is_outside_the_directory.
+    // cartridge_is_outside_the_directory, file_of_a_directory_may_have_a_slash.
     ensures { VerifyEnds (F.bytes_of folder.now) words.entry
         (record { input = R.remaining input.old; output = W.contents output.old })
         (record { input = R.remaining input.new; output = W.contents output.new }) result }

@@ -46,6 +46,8 @@ mod real_report_tests;
 #[cfg(test)]
 mod recovery_tests;
 #[cfg(test)]
+mod report_tests;
+#[cfg(test)]
 mod saving_tests;
 #[cfg(test)]
 mod search_tests;

@@ -52,43 +52,12 @@ impl<'a> Folder for Place<'a> {
 }
 
 /// The cartridge, and a movie of five frames in which nothing is pressed.
-fn five_frames<R: Abort>(rt: &R, alloc: Global) -> Recording {
+pub fn five_frames<R: Abort>(rt: &R, alloc: Global) -> Recording {
     recording_of(rt, alloc, COUNTING, 5, IDLE)
 }
 
-/// The same folder, in which a new file can be made that takes so many bytes.
-#[derive(Clone, Copy)]
-struct Roomy<'a> {
-    place: Place<'a>,
-    alloc: Global,
-    room: usize,
-}
-
-impl<'a> Folder for Roomy<'a> {
-    type File = Giver<'a>;
-
-    type Sink = Taker;
-
-    fn look(&self, _name: &str) -> Option<OrdinaryFile> {
-        None
-    }
-
-    fn open(&self, name: &str) -> io::Result<Giver<'a>> {
-        self.place.open(name)
-    }
-
-    fn open_to_write(&self, _permit: Permit, _name: &str) -> io::Result<Taker> {
-        Err(Error::from(ErrorKind::NotFound))
-    }
-
-    fn create_new(&self, _permit: Permit, _name: &str) -> io::Result<Taker> {
-        let room = Room::Bytes(self.room);
-        Ok(Taker::new(self.alloc, 1000, room, Failure::Error))
-    }
-}
-
 /// Runs the program with these words over this folder and input: its status. What it writes, and what it reports, goes to these writers.
-fn run_in<T: Threads + Wait + Clock + Abort + Sync, F: Folder + Sync, W: Write, E: Write>(
+pub fn run_in<T: Threads + Wait + Clock + Abort + Sync, F: Folder + Sync, W: Write, E: Write>(
     rt: &T,
     alloc: Global,
     folder: &F,
@@ -680,48 +649,4 @@ fn report_that_cannot_be_made_is_a_fault(rt: HostRuntime) {
     let words = ["search", "none.bin", "3", "1", "reach 1", "--report", "new"];
     let line = b"fault: report: not created\n".as_slice();
     check_end(&rt, alloc, &movie, &words, (1, b"", line));
-}
-
-/// A search in a folder whose new files take so many bytes, with its report in one: its status, its script and what standard error has, but
-/// for rates.
-fn reported<T: Threads + Wait + Clock + Abort + Sync>(
-    rt: &T,
-    alloc: Global,
-    movie: &Recording,
-    room: usize,
-) -> (u8, Vec<u8>, Vec<u8>) {
-    let mut words = expect_ok(rt, Vec::from_slice(alloc, FIRST.as_slice()));
-    for word in ["--report", "new", "--workers", "2"] {
-        expect_ok(rt, words.push(word));
-    }
-    let (game, input) = movie.files();
-    let place = Place { game };
-    let folder = Roomy { place, alloc, room };
-    let (mut output, mut errors) = (Vec::new(alloc), Vec::new(alloc));
-    let code = run_in(rt, alloc, &folder, input, &words, &mut output, &mut errors);
-    (code, output, timeless(rt, alloc, errors.as_slice()))
-}
-
-/// A line goes to the report's file first: where it takes only a part, standard error has none of it.
-#[test]
-fn report_that_cannot_be_written_is_a_fault(rt: HostRuntime) {
-    let alloc = rt.alloc();
-    let movie = five_frames(&rt, alloc);
-    for room in [0usize, 8, 60] {
-        let (code, output, errors) = reported(&rt, alloc, &movie, room);
-        let line = b"fault: report: write failed\n".as_slice();
-        check_same(&rt, room, (code, errors.as_slice()), (1, line));
-        check_same(&rt, room, output.len(), 0);
-    }
-    let script = b"replace 3 1 R.... ..... .....\n".as_slice();
-    let line =
-        b"layer 1: 1 frames, 3 states, 15 merged, 18 played, 1024 bytes\nfault: report: write failed after ".as_slice();
-    let (code, output, errors) = reported(&rt, alloc, &movie, 95);
-    check_same(&rt, "verdict", (code, output.as_slice()), (1, script));
-    check_that(&rt, "verdict", errors.as_slice().starts_with(line));
-    let (code, output, errors) = reported(&rt, alloc, &movie, 1000);
-    let line =
-        b"layer 1: 1 frames, 3 states, 15 merged, 18 played, 1024 bytes\nbest of all 18 sequences\n".as_slice();
-    check_same(&rt, "room", (code, output.as_slice()), (0, script));
-    check_same(&rt, "room", errors.as_slice(), line);
 }

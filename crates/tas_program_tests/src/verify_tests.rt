@@ -18,11 +18,12 @@ use test_streams::{Failure, Giver, Room, Taker};
 /// A file: its name and its bytes.
 type Held<'a> = (&'a str, &'a [u8]);
 
-/// A folder of these files, of which nothing is known; those of the directory `roms` have its name before theirs.
+/// A folder of these files, of which nothing is known; those of the directory `roms` have its name before theirs. No read of one of them works.
 #[derive(Clone, Copy)]
 struct Archive<'a> {
     files: &'a [Held<'a>],
     has_progress: bool,
+    failing: &'a str,
 }
 
 /// The bytes of the file with this name.
@@ -51,7 +52,7 @@ impl<'a> Folder for Archive<'a> {
 
     fn open(&self, name: &str) -> io::Result<Giver<'a>> {
         match bytes_of(self.files, name) {
-            Some(bytes) => Ok(Giver::new(bytes, 1000, 0)),
+            Some(bytes) => Ok(Giver::new(bytes, 1000, usize::from(name == self.failing))),
             None => Err(Error::from(ErrorKind::NotFound)),
         }
     }
@@ -201,6 +202,7 @@ fn each_manifest_has_its_lines(rt: HostRuntime) {
     let folder = Archive {
         files: &files,
         has_progress: false,
+        failing: "",
     };
     for (words, manifest, status, lines, told) in CASES.iter() {
         let (mut output, mut errors) = (Vec::new(alloc), Vec::new(alloc));
@@ -218,6 +220,53 @@ fn each_manifest_has_its_lines(rt: HostRuntime) {
     }
 }
 
+/// A manifest of a movie whose cartridge is looked for.
+const LOOKED_FOR: &[u8] =
+    b"a 820c64e9933496de683a000c5e11f0510fb7b1699b2ce86471295236b284906d all\n";
+
+const FOUND_LINES: &[u8] = b"a: ok\n1 of 1 ok\n";
+
+const LOST_LINES: &[u8] = b"a: cartridge not found\n0 of 1 ok\n";
+
+/// Two names of the cartridge, the one of a file that can't be read, the status and the lines.
+static PLACES: [([&str; 2], &str, u8, &[u8]); 5] = [
+    (["roms/a", "roms/b"], "", 0, FOUND_LINES),
+    (["roms/a", "roms/b"], "roms/a", 0, FOUND_LINES),
+    (["roms/a", "b"], "roms/a", 1, LOST_LINES),
+    (["roms/deeper/a", "b"], "", 1, LOST_LINES),
+    (["roms/deeper/a", "roms/b"], "", 0, FOUND_LINES),
+];
+
+#[test]
+fn files_that_cannot_be_read_or_are_deeper_are_left_out(rt: HostRuntime) {
+    let alloc = rt.alloc();
+    let game = image_of(&rt, alloc, PLAYFIELD.bytes);
+    for (case, (names, failing, status, lines)) in PLACES.iter().enumerate() {
+        let files = [
+            ("a", TWO_FRAMES),
+            ("all", BY_STRETCH),
+            (names[0], game.as_slice()),
+            (names[1], game.as_slice()),
+        ];
+        let folder = Archive {
+            files: &files,
+            has_progress: false,
+            failing: *failing,
+        };
+        let (mut output, mut errors) = (Vec::new(alloc), Vec::new(alloc));
+        let code = run_on(
+            &rt,
+            alloc,
+            &folder,
+            FOUND,
+            LOOKED_FOR,
+            &mut output,
+            &mut errors,
+        );
+        check_same(&rt, case, (code, output.as_slice()), (*status, *lines));
+    }
+}
+
 /// What somebody who waits is told of two movies, but for the rate.
 const PROGRESS: &[u8] = b"verified: 2 movies, 0 left, ";
 
@@ -229,6 +278,7 @@ fn progress_changes_nothing_else(rt: HostRuntime) {
     let folder = Archive {
         files: &files,
         has_progress: true,
+        failing: "",
     };
     let lines: &[u8] = b"a: ok\na: ok\n2 of 2 ok\n";
     for room in [100_000, 28, 5, 0] {
@@ -260,6 +310,7 @@ fn lines_that_cannot_be_written_are_a_fault(rt: HostRuntime) {
     let folder = Archive {
         files: &files,
         has_progress: false,
+        failing: "",
     };
     for (room, line) in [
         (0, "fault: write failed after 0 bytes\n"),

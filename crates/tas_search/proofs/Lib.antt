@@ -23,3 +23,6 @@ pub mod CountLemmas
 pub mod ReportLemmas
 pub mod PartLemmas
 pub mod SequenceLemmas
+pub mod OneAnswer
+pub mod OneText
+pub mod OneSearch

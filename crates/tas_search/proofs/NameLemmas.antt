@@ -15,7 +15,7 @@ use Rattle.tas_search.proofs.TextLemmas.{number_none}
 
 -- ---- tests
 
-both : (a b : Bool) → (a && b) ≡ true → (a ≡ true) × (b ≡ true)
+pub both : (a b : Bool) → (a && b) ≡ true → (a ≡ true) × (b ≡ true)
 both true b e = (refl, e)
 both false b e = absurd cc
 
@@ -103,6 +103,9 @@ parts_of names w h =
     let c = both (is_identifier w && is_none (row_of sign_words w)) (is_none (row_of operator_words w)) b.0 in
     let d = both (is_identifier w) (is_none (row_of sign_words w)) c.0 in
     record { identifier = d.0; sign = none_is (row_of sign_words w) d.1; operator = none_is (row_of operator_words w) c.1; new = none_is (named names w) a.1 }
+
+pub identifier_of : (names : Names) (w : List ℕ) → is_name names w ≡ true → is_identifier w ≡ true
+identifier_of names w h = let p = parts_of names w h in p.identifier
 
 all_mean : (before names : Names) → AreNew before names → AllMean (before ++ names) names
 all_mean before [] h = tt

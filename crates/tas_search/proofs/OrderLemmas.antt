@@ -4,7 +4,7 @@ use Rattle.std.proofs.Math.Nat.{mul-le-mul_right}
 use Rattle.tas_search.specs.Space.{SpaceContent, AreNumbers, rank_from, rank}
 
 -- a lower rank stays lower, whatever choices follow
-lower_stays : (s : SpaceContent) (p q : ℕ) (a b : List ℕ) → p < q → AreNumbers s a → length a ≡ length b → rank_from (length s.choices) p a < rank_from (length s.choices) q b
+pub lower_stays : (s : SpaceContent) (p q : ℕ) (a b : List ℕ) → p < q → AreNumbers s a → length a ≡ length b → rank_from (length s.choices) p a < rank_from (length s.choices) q b
 lower_stays s p q [] [] lt are same = lt
 lower_stays s p q [] (y ∷ b) lt are same = absurd (omega arith)
 lower_stays s p q (x ∷ a) [] lt are same = absurd (omega arith)

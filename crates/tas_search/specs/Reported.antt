@@ -22,6 +22,15 @@ pub record IsReported (s : SpaceContent) (count : ℕ) (outcome : Outcome) (old 
   pub full : (k : ℕ) → k < length times → 0 < state_count s k
   pub logged : Logged old new (layer_lines s times)
 
+-- two reports of one space have as many lines, and these differ in nothing but how long each layer took
+pub record DifferInTimes (old new old' new' : LogBytes) : Type 0 where
+  pub space : SpaceContent
+  pub times : List ℕ
+  pub times' : List ℕ
+  pub as_many : length times ≡ length times'
+  pub logged : Logged old new (layer_lines space times)
+  pub logged' : Logged old' new' (layer_lines space times')
+
 -- a search can come to its layer after n choices: sequences can have as many, each layer before it has a machine, and no layer up to it has too many
 pub record CanReach (s : SpaceContent) (count states n : ℕ) : Type 0 where
   pub within : n ≤ count
@@ -41,7 +50,7 @@ HasLine s n old new = (nanos : ℕ) × Logged old new (layer_line s n nanos)
 abbrev pub LeavesLayer : SpaceContent → ℕ → Unfinished → (old new : LogBytes) → Type 0
 LeavesLayer s n why old new = (nanos : ℕ) × LeavesLine why old new (layer_line s n nanos)
 
--- a search isn't finished: both have the lines of the first layers, in order, and of the next one what was written until the report failed
+-- a search isn't finished: both have the lines of some first layers, in order, and of the next one what was written until the report failed
 pub record StopsReporting (s : SpaceContent) (count states : ℕ) (why : Unfinished) (old new : LogBytes) : Type 0 where
   pub times : List ℕ
   pub mid : LogBytes

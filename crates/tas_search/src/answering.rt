@@ -130,11 +130,11 @@ pub fn search_text<R: Threads + Clock + Sync, E: Write, P: Write>(
     errors: &mut E,
     report: &mut P,
 ) -> Result<SearchText, SearchError>
-    // A search is a function of its inputs' bytes. After `best of all` the script writes a sequence of the space into the
-    // movie that meets the goal, and of all sequences none does so earlier, or has a better value; of those as good it is
-    // the first. After `none` no sequence meets it, and after `stopped` none of as many frames as the line says. With it
-    // the report has a line for each layer. All of it but the rate in each line is the same whatever the number of workers,
-    // which is no input.
+    // A search is a function of its inputs' bytes: two answers that meet this clause have the same script and verdict, and
+    // reports that differ in the rates of their lines alone (`one_answer_per_search`), whatever the number of workers, which
+    // is no input. After `best of all` the script writes a sequence of the space into the movie that meets the goal, and of
+    // all sequences none does so earlier, or has a better value; of those as good it is the first. After `none` no sequence
+    // meets it, and after `stopped` none of as many frames as the line says. With it the report has a line for each layer.
     // Refused: changes_are_left_out_of_the_script, choices_file_is_left_unread.
     ensures text { IfOk result (λ text. IsSearchText (inputs_of search.now bytes.now)
         text.script.items text.verdict.items (log_bytes (E.contents errors.old) (P.contents report.old))
@@ -142,7 +142,7 @@ pub fn search_text<R: Threads + Clock + Sync, E: Write, P: Write>(
     // A fault is that of the first input that has one.
     // Refused: goal_is_read_without_names.
     ensures fault { IfErr result (IsSearchError (inputs_of search.now bytes.now)) }
-    // Without an answer the report has nothing where the search can't begin, whole lines of the first layers where memory is
+    // Without an answer the report has nothing where the search can't begin, whole lines of some first layers where memory is
     // refused, and where a write fails perhaps a part of the next line in one of the two writers.
     // Refused: none, the lines are those of `find_goal`.
     ensures cut { IfErr result

@@ -3,8 +3,8 @@
 ghost use Rattle.std.specs.Prelude.{◌≡◌, ℕ, suc, ◌-◌, ◌*◌, ◌^◌, ◌<◌, ◌≤◌, ◌↔◌, ℤ, Bool, List, ◌∷◌, ◌++◌, length, map, None};
 ghost use Rattle.std.specs.List.{Contains, range_with_len};
 ghost use Rattle.vcs_machine.specs.Machine.{Machine};
-ghost use Rattle.tas_search.specs.Best.{IsShortest, NeedsAtLeast};
-ghost use Rattle.tas_search.specs.Extreme.{IsExtreme};
+ghost use Rattle.tas_search.specs.Best.{IsReachAnswer, IsShortest, NeedsAtLeast};
+ghost use Rattle.tas_search.specs.Extreme.{IsExtreme, IsExtremeAnswer};
 ghost use Rattle.tas_search.specs.Outcome.{Outcome, nothing};
 ghost use Rattle.tas_search.specs.Parts.{HaveExtremes, HaveShortest, IsBestPart, IsPart, IsShortestPart, least_count, part_of, sequence_count, whole};
 ghost use Rattle.tas_search.specs.LayerLines.{sequences};
@@ -14,6 +14,9 @@ ghost use Rattle.tas_search.specs.declared.goal.GoalKind.{GoalKind};
 ghost use Rattle.tas_search.specs.Expression.{value_of};
 ghost use Rattle.tas_search.specs.GoalText.{IsGoalText};
 ghost use Rattle.tas_search.specs.Grammar.{Tree, tree_of};
+ghost use Rattle.tas_search.specs.Logs.{LogBytes};
+ghost use Rattle.tas_search.specs.Reported.{DifferInTimes};
+ghost use Rattle.tas_search.specs.SearchText.{SearchInputs, IsSearchText};
 ghost use Rattle.tas_search.specs.Space.{SpaceContent, AreNumbers, AreChoices, rank, reached};
 ghost use Rattle.tas_search.specs.Words.{Names};
 
@@ -37,6 +40,27 @@ pub fn one_value_per_tree()
     // Refused: none, they are laws of the definitions and have no code.
     ensures { (a b : Expression) (ram : List ℕ)
         → tree_of a ≡ tree_of b → value_of a ram ≡ value_of b ram }
+{}
+
+/// A search has one answer, whatever the number of workers.
+pub fn one_answer_per_search()
+    // Two outcomes that meet the clause of `find_shortest` for the same space, goal and limits are equal: the same sequence, or none in both, or
+    // both stopped after as many choices.
+    // Refused: none, it is a law of the definitions and has no code.
+    ensures shortest { (space : SpaceContent) (goal : Machine → Bool) (most states : ℕ) (a b : Outcome)
+        → IsReachAnswer space goal most states a → IsReachAnswer space goal most states b → a ≡ b }
+    // The same of `find_extreme`, and so of `find_goal`.
+    // Refused: none, it is a law of the definitions and has no code.
+    ensures value { (space : SpaceContent) (aim : Aim) (value : Machine → ℤ) (count states : ℕ) (a b : Outcome)
+        → IsExtremeAnswer space aim value count states a
+        → IsExtremeAnswer space aim value count states b → a ≡ b }
+    // Two answers that meet the clause of `search_text` for the same inputs' bytes and numbers have the same script and the same verdict, byte for
+    // byte, and reports of as many lines that differ in their rates alone. The number of workers is none of these inputs. Nothing is said of two
+    // searches of which one has no answer: it may be out of memory, or fail to write, where the other isn't and doesn't.
+    // Refused: none, it is a law of the definitions and has no code.
+    ensures text { (i : SearchInputs) (script script' verdict verdict' : List ℕ) (old new old' new' : LogBytes)
+        → IsSearchText i script verdict old new → IsSearchText i script' verdict' old' new'
+        → (script ≡ script') × (verdict ≡ verdict') × DifferInTimes old new old' new' }
 {}
 
 /// The best of the answers of a space's parts is the whole's.

@@ -60,7 +60,8 @@ pub fn find_shortest<
     errors: &mut E,
     report: &mut P,
 ) -> Result<Found<A>, Unfinished>
-    // A search for the shortest sequence ends with one of three answers, whatever the number of workers. The sequence
+    // A search for the shortest sequence ends with one of three answers, and no other one meets this clause
+    // (`one_answer_per_search`), so it is the same whatever the number of workers. The sequence
     // that it returns is of the space and of at most `count` choices; the machine after it meets the goal; no sequence of
     // fewer choices meets it, and of those with as many that do it is the first in the order of the choices. `Nothing`:
     // no sequence of at most `count` choices meets it. `Stopped`: none of fewer choices than it says meets it, and this

@@ -18,7 +18,11 @@ mod part_tests;
 #[cfg(test)]
 mod plain;
 #[cfg(test)]
+mod refused_tests;
+#[cfg(test)]
 mod report_tests;
+#[cfg(test)]
+mod requests;
 #[cfg(test)]
 mod run_tests;
 #[cfg(test)]

@@ -1,51 +1,21 @@
 //! Searches over readers and a writer: the scripts and reports that they make of inputs' bytes, and their faults.
 
-use crate::checks::{check_same, check_that, expect_ok, expect_some};
-use crate::goals::{COUNTER, TRAP, cart_of, still, three_choices};
+use crate::checks::{check_same, check_that, expect_ok};
+use crate::goals::{COUNTER, TRAP, cart_of, three_choices};
 use crate::plain::{ALL, shortest};
+use crate::requests::{CHOICES, image_of, search, text_of};
 use std::alloc::Global;
 use std::io::sink;
 use std::process::Abort;
 use std::thread::Threads;
 use std::time::Clock;
-use tas_engines::{ReadFault, RunFault};
+use tas_engines::RunFault;
 use tas_language::{Change, change_line};
-use tas_movie::print_text;
 use tas_search::{
     ChoicesError, ChoicesFaultKind, GoalFault, NamesError, NamesFaultKind, Search, SearchError,
     SearchFault, SpacePart, Wanted, search_run,
 };
-use test_streams::{Failure, Giver, Room, Taker};
 use vcs_machine::Input;
-
-/// Nothing, the left stick to the right, and to the left.
-const CHOICES: &[u8] = b"..... ..... .....\nR.... ..... .....\n.L... ..... .....\n";
-
-/// The cartridge with a program.
-fn image_of<R: Abort>(rt: &R, alloc: Global, program: &[u8]) -> Vec<u8> {
-    let cart = cart_of(rt, alloc, program);
-    expect_ok(rt, Vec::from_slice(alloc, cart.bytes()))
-}
-
-/// The text of a movie of so many frames in which nothing is pressed.
-fn text_of<R: Abort>(rt: &R, alloc: Global, program: &[u8], len: usize) -> Vec<u8> {
-    expect_ok(rt, print_text(alloc, &still(rt, alloc, program, len)))
-}
-
-/// A search from frame 3 on among the choices of a file, with names.
-fn search(frames: usize, hold: usize, states: usize, goal: &[u8]) -> Search<'_> {
-    Search {
-        from: 3,
-        frames,
-        hold,
-        states,
-        workers: 2,
-        part: SpacePart::whole(),
-        has_choices: true,
-        has_names: true,
-        goal,
-    }
-}
 
 /// What a search writes and reports: the script, and after it the report.
 fn said<R: Abort + Threads + Clock + Sync>(
@@ -535,72 +505,4 @@ fn each_input_at_fault(rt: HostRuntime) {
         "no movie",
         matches!(found, Some(SearchError::Run(RunFault::Text(_)))),
     );
-}
-
-#[test]
-fn reads_and_writes_are_refused(rt: HostRuntime) {
-    let alloc = rt.alloc();
-    let image = image_of(&rt, alloc, COUNTER);
-    let movie = text_of(&rt, alloc, COUNTER, 5);
-    let search = search(4, 1, 100, b"reach n == 1");
-    let script = b"replace 3 1 R.... ..... .....\n";
-    // Each input is read in pieces of 1,000 bytes, and one more read finds its end.
-    for (case, fails) in [
-        [1usize, 0, 0, 0],
-        [3, 0, 0, 0],
-        [0, 1, 0, 0],
-        [0, 0, 2, 0],
-        [0, 0, 0, 1],
-    ]
-    .iter()
-    .enumerate()
-    {
-        let mut files = [
-            Giver::new(image.as_slice(), 1000, fails[0]),
-            Giver::new(CHOICES, 1000, fails[1]),
-            Giver::new(b"n 80\n", 1000, fails[2]),
-        ];
-        let mut text = Giver::new(movie.as_slice(), 1000, fails[3]);
-        let mut out = Vec::new(alloc);
-        let end = search_run(
-            &rt,
-            alloc,
-            &search,
-            &mut files,
-            &mut text,
-            &mut out,
-            &mut sink(),
-            &mut sink(),
-        );
-        check_that(
-            &rt,
-            case,
-            end.err() == Some(SearchError::Read(ReadFault::Failed)),
-        );
-        check_same(&rt, case, out.len(), 0);
-        check_same(&rt, case, text.reads, fails[3]);
-    }
-    for room in 0..script.len() {
-        for failure in [Failure::Error, Failure::Interrupted, Failure::Nothing] {
-            let mut out = Taker::new(alloc, 7, Room::Bytes(room), failure);
-            let mut files = [image.as_slice(), CHOICES, b"n 80\n"];
-            let end = search_run(
-                &rt,
-                alloc,
-                &search,
-                &mut files,
-                &mut { movie.as_slice() },
-                &mut out,
-                &mut sink(),
-                &mut sink(),
-            );
-            check_that(
-                &rt,
-                room,
-                end.err() == Some(SearchError::Run(RunFault::Write { written: room })),
-            );
-            check_same(&rt, room, out.taken.as_slice(), &script[..room]);
-            check_same(&rt, room, out.failed, 1);
-        }
-    }
 }

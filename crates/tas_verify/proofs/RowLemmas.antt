@@ -9,15 +9,14 @@ use Rattle.std.proofs.lemmas.Fmt.{decimal_injective}
 use Rattle.tas_movie.specs.Content.{most_inputs}
 use Rattle.tas_language.proofs.WordLemmas.{decimal_no_space}
 use Rattle.std.specs.Prelude.{max, Result, Ok, Err}
-use Rattle.tas_engines.specs.declared.fault.ReadFault.TheVariants as read
 use Rattle.tas_engines.specs.declared.fault.RunFault.{RunFault}
 use Rattle.tas_engines.specs.Commands.{OfTwo}
 use Rattle.tas_engines.specs.Digests.{IsDigestAnswer}
 use Rattle.tas_verify.specs.declared.outcome.Outcome.{Outcome}
-use Rattle.tas_verify.specs.declared.outcome.Outcome.TheVariants.{NotFound, Unread}
-use Rattle.tas_verify.specs.declared.outcome.Role.TheVariants.{Cartridge, Digest}
+use Rattle.tas_verify.specs.declared.outcome.Outcome.TheVariants.{NotFound}
+use Rattle.tas_verify.specs.declared.outcome.Role.TheVariants.{Cartridge}
 use Rattle.tas_verify.specs.Manifest.{RowWords}
-use Rattle.tas_verify.specs.Rows.{after_line, SaysFrames, DifferAtOnce, DifferInLine, HasStretches, newlines, outcome_of, cart_held, ShelfFacts, IsRead, IsUnread, IsAnother, IsCompared, IsPlayed, JudgesCart, Opens}
+use Rattle.tas_verify.specs.Rows.{after_line, SaysFrames, DifferAtOnce, DifferInLine, HasStretches, newlines, outcome_of, cart_finds, cart_held, ShelfFacts, IsRead, IsAnother, IsCompared, IsPlayed, JudgesCart, JudgesDigest}
 
 -- ---- the bytes after a line
 
@@ -110,15 +109,9 @@ played_fault every inputs stored fault outcome has some is reported image text a
 
 -- ---- a cartridge that is read
 
-pub unread_memory : (known : Option (List ℕ)) (bytes : List ℕ) → IsRead known bytes → IsUnread known read.Memory
-unread_memory known bytes (after, whole) = (after, (bytes, whole.left_reader, whole.within))
-
 pub cart_another : (facts : ShelfFacts) (row : RowWords) (text image : List ℕ) → IsRead (cart_held facts row.cart) image → IsAnother row.cart image → JudgesCart facts row text (NotFound Cartridge)
-cart_another facts row text image whole another = inr (image, whole, inl (another, refl))
+cart_another facts row text image whole another = (inr refl, inr (image, whole, inl (another, refl)))
 
-pub cart_memory : (facts : ShelfFacts) (row : RowWords) (text image : List ℕ) → IsRead (cart_held facts row.cart) image → JudgesCart facts row text (Unread Cartridge read.Memory)
-cart_memory facts row text image whole = inl (inr (read.Memory, unread_memory (cart_held facts row.cart) image whole, refl))
-
-pub cart_judged : (facts : ShelfFacts) (row : RowWords) (text image : List ℕ) (outcome : Outcome) → IsRead (cart_held facts row.cart) image → (IsAnother row.cart image → ⊥)
-    → Opens (facts.lacks row.digest) (facts.held row.digest) Digest (IsPlayed text image) outcome → JudgesCart facts row text outcome
-cart_judged facts row text image outcome whole never judged = inr (image, whole, inr (never, judged))
+pub cart_judged : (facts : ShelfFacts) (row : RowWords) (text image : List ℕ) (outcome : Outcome) → cart_finds facts row.cart → IsRead (cart_held facts row.cart) image → (IsAnother row.cart image → ⊥)
+    → JudgesDigest facts row text image outcome → JudgesCart facts row text outcome
+cart_judged facts row text image outcome there whole never judged = (inl there, inr (image, whole, inr (never, judged)))

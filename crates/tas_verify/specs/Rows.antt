@@ -1,4 +1,4 @@
--- What came of a movie: a function of the bytes of its three files, by what `tas digest` answers to the first two.
+-- What came of a movie: a relation to the bytes of its three files, by what `tas digest` answers to the first two.
 use Rattle.std.specs.Prelude.{◌≡◌, ◌≢◌, ℕ, ◌+◌, ◌-◌, ◌*◌, ◌≤◌, ◌==◌, Bool, true, ◌&&◌, ◌||◌, nat_le, nat_lt, count_by, if◌then◌else◌, MatchBool, List, [], ◌∷◌, ◌++◌, length, codes, decimal, ◌⊎◌, Option, None, Ok, Err}
 use Rattle.std.specs.List.{list_all}
 use Rattle.tas_movie.specs.Content.{most_inputs}
@@ -15,16 +15,17 @@ use Rattle.tas_verify.specs.Manifest.{RowWords}
 
 -- ---- files
 
--- what is known of a shelf: the bytes of the file with a name, and that it can't be opened; and the same of a cartridge by its SHA-256
+-- what is known of a shelf: the bytes of the file with a name, and that it can't be opened; and the same of a cartridge by its SHA-256, and that there is one
 pub record ShelfFacts : Type 1 where
   pub held : List ℕ → Option (List ℕ)
   pub lacks : List ℕ → Type 0
   pub found : List ℕ → Option (List ℕ)
+  pub finds : List ℕ → Type 0
   pub misses : List ℕ → Type 0
 
 -- nothing is known
 abbrev pub unknown_shelf : ShelfFacts
-unknown_shelf = record { held = λ name. None; lacks = λ name. Unit {0}; found = λ digits. None; misses = λ digits. Unit {0} }
+unknown_shelf = record { held = λ name. None; lacks = λ name. Unit {0}; found = λ digits. None; finds = λ digits. Unit {0}; misses = λ digits. Unit {0} }
 
 -- what a reader has is read whole, and is these bytes
 abbrev pub IsRead : Option (List ℕ) → List ℕ → Type 0
@@ -58,6 +59,14 @@ cart_lacks facts word = MatchBool (is_sha256 word) (facts.misses word) (facts.la
 
 abbrev pub cart_held : ShelfFacts → List ℕ → Option (List ℕ)
 cart_held facts word = if is_sha256 word then facts.found word else facts.held word
+
+-- there is a cartridge with the SHA-256; of a file's name nothing is said
+abbrev pub cart_finds : ShelfFacts → List ℕ → Type 0
+cart_finds facts word = MatchBool (is_sha256 word) (facts.finds word) (Unit {0})
+
+-- there is one, or that it isn't found is what came of the movie
+abbrev pub IsThereOr : (finds : Type 0) → Outcome → Type 0
+IsThereOr finds outcome = finds ⊎ (outcome ≡ NotFound Cartridge)
 
 -- what was found by a SHA-256 has another one
 abbrev pub IsAnother : List ℕ → List ℕ → Type 0
@@ -131,12 +140,16 @@ IsPlayed text image stored outcome =
     (every : ℕ) × HasStretches stored every
     × (((now : List ℕ) × IsDigestAnswer every image text (Ok now) × IsCompared every now stored outcome) ⊎ ((fault : RunFault) × IsDigestAnswer every image text (Err fault) × (outcome ≡ outcome_of fault)))
 
--- what came of a movie whose text is read: its cartridge and its digest are opened and read in order, and then it is played
+-- what came of a movie whose text and cartridge are read: its digest is opened and read, and then it is played; or memory is refused
+abbrev pub JudgesDigest : ShelfFacts → RowWords → (text image : List ℕ) → Outcome → Type 0
+JudgesDigest facts row text image outcome = (outcome ≡ Memory) ⊎ Opens (facts.lacks row.digest) (facts.held row.digest) Digest (IsPlayed text image) outcome
+
+-- what came of a movie whose text is read: its cartridge is opened and read first
 abbrev pub JudgesCart : ShelfFacts → RowWords → (text : List ℕ) → Outcome → Type 0
-JudgesCart facts row text =
-    Opens (cart_lacks facts row.cart) (cart_held facts row.cart) Cartridge (λ image outcome.
-    (IsAnother row.cart image × (outcome ≡ NotFound Cartridge))
-    ⊎ ((IsAnother row.cart image → ⊥) × Opens (facts.lacks row.digest) (facts.held row.digest) Digest (IsPlayed text image) outcome))
+JudgesCart facts row text outcome =
+    IsThereOr (cart_finds facts row.cart) outcome
+    × Opens (cart_lacks facts row.cart) (cart_held facts row.cart) Cartridge (λ image outcome.
+    (IsAnother row.cart image × (outcome ≡ NotFound Cartridge)) ⊎ ((IsAnother row.cart image → ⊥) × JudgesDigest facts row text image outcome)) outcome
 
 -- what came of a movie whose line has these words: its text is opened and read first
 abbrev pub IsOutcome : ShelfFacts → RowWords → Outcome → Type 0

@@ -14,7 +14,7 @@ pub struct Cart<'a> {
 
 /// The name of the file of the first of some cartridges with this SHA-256; nothing where none has it.
 pub fn name_of<'a>(carts: &[Cart<'a>], digits: &[u8]) -> Option<&'a str>
-    // The first one of these digits.
+    // The name is that of the first cartridge with these digits.
     // Refused: first_cartridge_has_each_sha256.
     ensures { option_map (λ name. name.now) result ≡ name_of carts.now digits.now }
 {

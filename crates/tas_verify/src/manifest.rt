@@ -1,7 +1,7 @@
 //! Manifests.
 //!
-//! A tab between words, where a line has one: file names of cartridges often have spaces. The whole manifest is read before a movie
-//! is played, so that a line at fault is reported at once.
+//! A tab between words, where a line has one: file names of cartridges often have spaces. The whole manifest is read, and a line at
+//! fault reported, before a movie is played.
 
 ghost use Rattle.std.specs.Prelude.{◌≡◌, ◌↔◌, IsTrue, map, Some, None, Option, option_map, option_to_list, OnOk, ◌++◌, IfOk, IfErr, IfSome, IfNone};
 ghost use Rattle.tas_engines.specs.Remarks.{trimmed, words_of};
@@ -143,14 +143,15 @@ fn push_row<'a, A: Allocator>(
     Ok(())
 }
 
-/// Reads a manifest: a line for each movie, of three words: the movie's file, the cartridge's file or its SHA-256, and the digest's file. A tab is
-/// between the words where the line has one, else a space. A `#` and all after it is a remark, and a line without words names no movie.
+/// Reads a manifest: a line for each movie, of three words: the movie's file, the cartridge's file or its SHA-256, and the digest's file. A `#`, all
+/// after it and the spaces before it are a remark. Between the words are tabs where a line has one before its remark, else spaces. A line that is
+/// empty, or has only spaces before its remark, names no movie.
 ///
 /// Errors: the first line at fault; `Memory` at any point.
 pub fn read_manifest<A: Allocator>(alloc: A, bytes: &[u8]) -> Result<Vec<Row<'_>, A>, ManifestError>
     // A manifest is read as the movies that its lines name, in order, or its first line at fault is reported.
     // Refused: line_after_the_first_one_is_left_out, fault_of_a_manifest_is_in_line_1, digest_word_may_be_empty,
-    // fourth_word_is_part_of_the_third, remark_is_part_of_a_line.
+    // fourth_word_is_part_of_the_third, remark_is_part_of_a_line, tab_is_no_mark.
     ensures read { IfOk result (λ rows. IsManifest bytes.now (map words_in rows.items)) }
     ensures fault { IfErr result (IsManifestError bytes.now) }
 {

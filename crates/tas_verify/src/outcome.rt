@@ -21,7 +21,8 @@ pub enum Outcome {
     Same,
     /// The first line of the digest that isn't the movie's is that of the stretch with this frame as its first one, counted from 0.
     DiffersAt(usize),
-    /// It is this line, one of the first four: the head, the machine's profile, the cartridge or the movie.
+    /// The first line that isn't the movie's is this one, counted from 1, and one of the first four: the head, the machine's profile, the
+    /// cartridge or the movie.
     DiffersInLine(usize),
     /// This file couldn't be opened.
     NotFound(Role),
@@ -38,6 +39,6 @@ pub enum Outcome {
         /// The byte.
         opcode: u8,
     },
-    /// Memory was refused after the files were read.
+    /// Memory was refused after the movie's text and its cartridge were read.
     Memory,
 }

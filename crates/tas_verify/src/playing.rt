@@ -1,12 +1,13 @@
 //! One movie: its files are opened and read, and it is played.
 
-ghost use Rattle.std.specs.Prelude.{◌≡◌, ◌≤◌, ℕ, List, [], ◌∷◌, map, length, IsTrue, ◌↔◌, IfOk, IfErr};
+ghost use Rattle.std.specs.Prelude.{◌≡◌, ◌≤◌, ℕ, List, [], ◌∷◌, map, length, IsTrue, ◌↔◌, IfOk, IfErr, OnOk};
 ghost use Rattle.tas_engines.specs.Input.{most_input_bytes};
 ghost use Rattle.tas_engines.specs.Digests.{digest_of};
 ghost use Rattle.tas_verify.specs.declared.outcome.Role.{Role as RoleOf};
 ghost use Rattle.tas_verify.specs.Manifest.{words_in};
 ghost use Rattle.tas_verify.specs.Rows.{
   is_sha256,
+  cart_finds,
   cart_held,
   cart_lacks,
   outcome_of,
@@ -15,6 +16,7 @@ ghost use Rattle.tas_verify.specs.Rows.{
   IsAnother,
   IsPlayed,
   IsOutcome,
+  IsThereOr,
   JudgesCart,
   Opens,
 };
@@ -27,7 +29,7 @@ use sha2::{Digest as Hashing, Sha256};
 use std::alloc::{AllocError, Allocator};
 use std::io::Read;
 use tas_engines::commands::{Digest, Text};
-use tas_engines::{ReadFault, RunFault, read_input};
+use tas_engines::{RunFault, read_input};
 
 /// How many hexadecimal digits a SHA-256 has.
 pub(crate) const DIGITS: usize = 64;
@@ -73,8 +75,10 @@ fn read_found<A: Allocator, S: Shelf>(
 ) -> Result<Vec<u8, A>, Outcome>
     ensures read { IfOk result
         (λ bytes. IsRead ((S.facts shelf.now).found digits.now) bytes.items) }
+    ensures finds { OnOk result ((S.facts shelf.now).finds digits.now) }
     ensures fault { IfErr result (IsMissed ((S.facts shelf.now).misses digits.now)
         ((S.facts shelf.now).found digits.now) RoleOf.Cartridge) }
+    ensures there { IfErr result (IsThereOr ((S.facts shelf.now).finds digits.now)) }
 {
     read_opened(alloc, shelf.find(digits), Role::Cartridge)
 }
@@ -127,8 +131,10 @@ fn read_cart<A: Allocator, S: Shelf>(
 ) -> Result<Vec<u8, A>, Outcome>
     ensures read { IfOk result
         (λ bytes. IsRead (cart_held (S.facts shelf.now) word.now) bytes.items) }
+    ensures finds { OnOk result (cart_finds (S.facts shelf.now) word.now) }
     ensures fault { IfErr result (IsMissed (cart_lacks (S.facts shelf.now) word.now)
         (cart_held (S.facts shelf.now) word.now) RoleOf.Cartridge) }
+    ensures there { IfErr result (IsThereOr (cart_finds (S.facts shelf.now) word.now)) }
 {
     if is_sha256(word) {
         read_found(alloc, shelf, word)
@@ -229,7 +235,7 @@ fn judge_cart<A: Allocator + Copy, S: Shelf>(
     match in_a_list(alloc, image, text) {
         Ok(inputs) => judge_digest(alloc, shelf, row.digest, inputs.as_slice()),
         Err(_) => {
-            let outcome = Outcome::Unread(Role::Cartridge, ReadFault::Memory);
+            let outcome = Outcome::Memory;
             Judged { outcome, frames: 0 }
         }
     }
@@ -250,10 +256,10 @@ pub(crate) fn judge_row<A: Allocator + Copy, S: Shelf>(alloc: A, shelf: &S, row:
 pub fn verify_row<A: Allocator + Copy, S: Shelf>(alloc: A, shelf: &S, row: Row<'_>) -> Outcome
     // A movie is the same only where the stored digest is the one that `tas digest` answers to it; else the first line that
     // differs is reported, and a fault is that of `tas digest`. A file that can't be opened or read comes before that, the first of
-    // the three; a cartridge that was found has the SHA-256 that was asked for.
+    // the three. A cartridge that was found has the SHA-256 that was asked for; where the shelf finds none, it isn't found.
     // Refused: movie_that_differs_is_the_same, first_stretch_is_the_second, stretches_are_600_frames_whatever_is_said,
     // halted_movie_is_the_same, other_cartridge_is_taken, cartridge_is_opened_by_its_digits,
-    // movie_is_read_for_its_digest.
+    // movie_is_read_for_its_digest, capital_digits_are_a_sha256.
     ensures { IsOutcome (S.facts shelf.now) (words_in row.entry) result }
 {
     judge_row(alloc, shelf, row).outcome

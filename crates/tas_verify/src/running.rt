@@ -129,8 +129,8 @@ where
     write_tally(alloc, tally, written, output)
 }
 
-/// Plays the movies that a manifest names, by as many workers as asked for, 1 to [`MAX_WORKERS`](crate::MAX_WORKERS), and compares each with
-/// its digest. The manifest is read whole first. A line for each movie is written, in the manifest's order, and a last line that counts; the lines of
+/// Plays the movies that a manifest names, by at most as many workers as asked for, 1 to [`MAX_WORKERS`](crate::MAX_WORKERS), and compares each
+/// with its digest. The manifest is read whole first. A line for each movie is written, in the manifest's order, and a last line that counts; the lines of
 /// some movies at a time. After each of these times `waiting` gets a line for somebody who waits: how many movies are done and left, and how many
 /// frames were played in a second. Where it can't be written nothing changes.
 ///
@@ -154,8 +154,9 @@ pub fn verify_run<
 where
     S::File: Send,
     // Each movie that the manifest names has its line, which says what comes of it alone, in the manifest's order, and a last line
-    // counts them: so the bytes are the same whatever the number of workers. Where the manifest isn't read or is none, nothing
-    // is written; where memory is refused, lines of the first movies; after `Write` the first bytes are out, as many as it reports.
+    // counts them. The clause doesn't mention the workers: where the files' bytes are known, each is opened and read, and memory is
+    // there, the files alone decide the bytes. Where the manifest isn't read or is none, nothing is written; where memory is refused,
+    // lines of the first movies; after `Write` the first bytes are out, as many as it reports.
     // Refused: line_is_named_by_the_cartridge, later_movies_are_left_out, all_are_counted_as_the_same, movie_is_not_played,
     // fault_of_a_manifest_has_no_number, failed_read_is_a_line_at_fault, bytes_before_are_not_counted.
     ensures { IsVerifyRun (S.facts shelf.now) (M.remaining manifest.old)

@@ -1,6 +1,6 @@
 //! Where movies, cartridges and digests come from.
 
-ghost use Rattle.std.specs.Prelude.{◌≡◌, IfSome, IfNone};
+ghost use Rattle.std.specs.Prelude.{◌≡◌, IfSome, IfNone, OnSome};
 ghost use Rattle.tas_verify.specs.Rows.{ShelfFacts, unknown_shelf};
 
 use std::fs;
@@ -12,7 +12,8 @@ pub trait Shelf {
     /// A file that was opened for reading.
     type File: Read + Drop;
 
-    // What is known of such a shelf: the bytes of what is opened by a name or a SHA-256, where they are known, and that nothing was.
+    // What is known of such a shelf: the bytes of what is opened by a name or a SHA-256, where they are known; what is known where
+    // a cartridge is opened by its SHA-256; and what is known where nothing is opened.
     ghost facts: { Self → ShelfFacts } = { λ _. unknown_shelf };
 
     /// Opens the file of this name at its first byte; nothing where that fails.
@@ -25,6 +26,7 @@ pub trait Shelf {
     fn find(&self, digits: &[u8]) -> Option<Self::File>
         ensures file { IfSome result
             (λ file. Self.File.remaining file ≡ (facts self.now).found digits.now) }
+        ensures finds { OnSome result ((facts self.now).finds digits.now) }
         ensures none { IfNone result ((facts self.now).misses digits.now) };
 }
 

@@ -1,7 +1,7 @@
 //! Movies on threads.
 //!
-//! Some movies at a time: the workers get stretches of them of the same length, and their lines are written before the next ones are
-//! begun. So memory is that of the manifest and of as many movies as there are workers.
+//! Some movies at a time: the workers get parts of them of the same length, the last one perhaps shorter, and their lines are written
+//! before the next ones are begun. So memory is that of the manifest and of as many movies as there are workers.
 
 ghost use Rattle.std.specs.Prelude.{◌≡◌, ℕ, ◌<◌, ◌≤◌, length, map, slice_index_or, vec_len, IfOk};
 ghost use Rattle.tas_verify.specs.Manifest.{words_in};

@@ -18,23 +18,41 @@ const MANIFEST: &[u8] = b"x c 1\na c 1\na b 1\n";
 /// What is written of them.
 const LINES: &[u8] = b"x: movie not found\na: ok\na: cartridge not found\n1 of 3 ok\n";
 
+/// The cartridge as a shelf has it that finds it, and a manifest with its SHA-256.
+const FOUND: &[u8] = b"=6707df007cd9f49721b2a8942c02ead96586dd0aa6e2c8ad328dbe2deba4e585";
+
+const BY_SHA256: &[u8] = b"a 6707df007cd9f49721b2a8942c02ead96586dd0aa6e2c8ad328dbe2deba4e585 1\n";
+
 #[test]
 fn a_file_that_is_not_read_is_named(rt: HostRuntime) {
     let alloc = rt.alloc();
     let counts = image_of(&rt, alloc, COUNTS);
-    let files: [Held<'_>; 3] = [
+    let files: [Held<'_>; 4] = [
         (b"a", COUNTS_MOVIE),
         (b"c", counts.as_slice()),
+        (FOUND, counts.as_slice()),
         (b"1", DIGEST_WHOLE),
     ];
-    for (failing, reads, line) in [
+    for (failing, manifest, reads, line) in [
         (
             b"a".as_slice(),
+            b"a c 1\n".as_slice(),
             2,
             b"a: movie: read failed\n0 of 1 ok\n".as_slice(),
         ),
-        (b"c", 6, b"a: cartridge: read failed\n0 of 1 ok\n"),
-        (b"1", 2, b"a: digest: read failed\n0 of 1 ok\n"),
+        (
+            b"c",
+            b"a c 1\n",
+            6,
+            b"a: cartridge: read failed\n0 of 1 ok\n",
+        ),
+        (
+            FOUND,
+            BY_SHA256,
+            6,
+            b"a: cartridge: read failed\n0 of 1 ok\n",
+        ),
+        (b"1", b"a c 1\n", 2, b"a: digest: read failed\n0 of 1 ok\n"),
     ] {
         for fails_at in 1..reads + 2 {
             let books = Books {
@@ -43,7 +61,7 @@ fn a_file_that_is_not_read_is_named(rt: HostRuntime) {
                 fails_at,
             };
             let mut out = Vec::new(alloc);
-            let mut input = b"a c 1\n".as_slice();
+            let mut input = manifest;
             let end = verify_run(&rt, alloc, 1, &books, &mut input, &mut out, &mut sink());
             check_that(&rt, fails_at, end.is_ok());
             let wanted = if fails_at <= reads {
@@ -56,21 +74,28 @@ fn a_file_that_is_not_read_is_named(rt: HostRuntime) {
     }
 }
 
+/// A file that is too long, a movie and its cartridge.
+fn files_beside<'a>(long: &'a [u8], cart: &'a [u8]) -> [Held<'a>; 3] {
+    [(b"long", long), (b"a", COUNTS_MOVIE), (b"c", cart)]
+}
+
 #[test]
 fn a_file_that_is_too_long_is_named(rt: HostRuntime) {
     let alloc = rt.alloc();
     let long = expect_ok(&rt, vec![in alloc; 0u8; 16_777_217]);
-    let files: [Held<'_>; 1] = [(b"long", long.as_slice())];
+    let counts = image_of(&rt, alloc, COUNTS);
+    let files = files_beside(long.as_slice(), counts.as_slice());
     let books = Books {
         files: &files,
         failing: b"",
         fails_at: 0,
     };
     let mut out = Vec::new(alloc);
-    let mut input = b"long c 1\n".as_slice();
+    let mut input = b"long c 1\na long 1\na c long\n".as_slice();
     let end = verify_run(&rt, alloc, 1, &books, &mut input, &mut out, &mut sink());
     check_that(&rt, 0, end.is_ok());
-    let wanted: &[u8] = b"long: movie: input is too long\n0 of 1 ok\n";
+    let wanted: &[u8] =
+        b"long: movie: input is too long\na: cartridge: input is too long\na: digest: input is too long\n0 of 3 ok\n";
     check_same(&rt, 0, out.as_slice(), wanted);
     let mut input = long.as_slice();
     let end = verify_run(&rt, alloc, 1, &books, &mut input, &mut out, &mut sink());

@@ -5,10 +5,11 @@ use crate::files::{COUNTS, COUNTS_MOVIE, DIGEST_BY_1, image_of};
 use crate::row_tests::run_on;
 use crate::shelves::{Books, Held};
 use std::io::sink;
-use tas_verify::{VerifyFault, verify_run};
+use tas_engines::ReadFault;
+use tas_verify::{ManifestError, VerifyFault, verify_run};
 
 /// Manifests, and what is written of them.
-static MANIFESTS: [(&[u8], &[u8]); 8] = [
+static MANIFESTS: [(&[u8], &[u8]); 9] = [
     (b"", b"0 of 0 ok\n"),
     (b"\n# nothing\n   # nothing\n", b"0 of 0 ok\n"),
     (b"a c 1\n", b"a: ok\n1 of 1 ok\n"),
@@ -17,13 +18,14 @@ static MANIFESTS: [(&[u8], &[u8]); 8] = [
         b"a: ok\na: ok\n2 of 2 ok\n",
     ),
     (b"a\tc\t1  # as ever\n", b"a: ok\n1 of 1 ok\n"),
+    (b"a c 1 #\tas ever\n", b"a: ok\n1 of 1 ok\n"),
     (b"#a c 1\na c b\n", b"a: digest not found\n0 of 1 ok\n"),
     (b"a c 1\r\n", b"a: digest not found\n0 of 1 ok\n"),
     (b"a c\xff 1\n", b"a: cartridge not found\n0 of 1 ok\n"),
 ];
 
 /// Manifests, and the first line at fault.
-static FAULTS: [(&[u8], usize); 14] = [
+static FAULTS: [(&[u8], usize); 16] = [
     (b"a c 1", 1),
     (b"a c 1\n# the end", 2),
     (b"a\n", 1),
@@ -36,6 +38,8 @@ static FAULTS: [(&[u8], usize); 14] = [
     (b"a\tc 1\n", 1),
     (b"a\t\t1\n", 1),
     (b" \n", 1),
+    (b"a\tc\t1\t# as ever\n", 1),
+    (b"\t# nothing\n", 1),
     (b"a c 1\n\n# x\na c # 1\nb\n", 4),
     (b"a c 1\na c\tb\n", 2),
 ];
@@ -78,8 +82,16 @@ fn faults_have_their_lines(rt: HostRuntime) {
             "fault: write failed after 5 bytes",
         ),
         (
-            VerifyFault::Read(tas_engines::ReadFault::TooLong),
+            VerifyFault::Read(ReadFault::TooLong),
             "fault: manifest: input is too long",
+        ),
+        (
+            VerifyFault::Read(ReadFault::Failed),
+            "fault: manifest: read failed",
+        ),
+        (
+            VerifyFault::Read(ReadFault::Memory),
+            "fault: manifest: out of memory",
         ),
     ]
     .iter()
@@ -87,5 +99,20 @@ fn faults_have_their_lines(rt: HostRuntime) {
     {
         let line = expect_ok(&rt, format!(in alloc; "{fault}"));
         check_same(&rt, case, line.as_str(), *wanted);
+    }
+}
+
+#[test]
+fn faults_of_a_manifest_have_their_texts(rt: HostRuntime) {
+    let alloc = rt.alloc();
+    for (case, (fault, wanted)) in [
+        (ManifestError::Line(3), "manifest line 3"),
+        (ManifestError::Memory, "out of memory"),
+    ]
+    .iter()
+    .enumerate()
+    {
+        let text = expect_ok(&rt, format!(in alloc; "{fault}"));
+        check_same(&rt, case, text.as_str(), *wanted);
     }
 }

@@ -14,7 +14,7 @@ use std::time::Clock;
 use tas_verify::{MAX_WORKERS, Tally, verify_run};
 
 /// Lines of a manifest, and what is said of their movies.
-static ROWS: [(&[u8], &[u8]); 30] = [
+static ROWS: [(&[u8], &[u8]); 32] = [
     (b"a c 1", b"a: ok"),
     (b"a c 2", b"a: ok"),
     (b"a c 3", b"a: ok"),
@@ -54,6 +54,8 @@ static ROWS: [(&[u8], &[u8]); 30] = [
     (b"1 c 1", b"1: movie line 1: head"),
     (b"a a 1", b"a: cartridge has 141 bytes"),
     (b"bad c 1", b"bad: movie line 5: frame"),
+    (b"unended c 1", b"unended: movie line 5: end"),
+    (b"twice c 1", b"twice: movie line 4: run"),
 ];
 
 /// A digest with another byte in the line with this number, counted from 1: its last one but one.
@@ -103,17 +105,19 @@ pub fn run_on<R: Threads + Clock + Sync + Abort>(
     (out, tally)
 }
 
-/// The manifest of all rows, and what is written of it.
-fn all_rows<R: Abort>(rt: &R, alloc: Global, rows: &[(&[u8], &[u8])]) -> (Vec<u8>, Vec<u8>) {
-    let mut manifest = Vec::new(alloc);
-    let mut wanted = Vec::new(alloc);
+/// Adds some rows to a manifest, and what is written of them.
+fn add_rows<R: Abort>(
+    rt: &R,
+    rows: &[(&[u8], &[u8])],
+    manifest: &mut Vec<u8>,
+    wanted: &mut Vec<u8>,
+) {
     for (row, line) in rows {
         expect_ok(rt, manifest.extend_from_slice(row));
         expect_ok(rt, manifest.push(b'\n'));
         expect_ok(rt, wanted.extend_from_slice(line));
         expect_ok(rt, wanted.push(b'\n'));
     }
-    (manifest, wanted)
 }
 
 /// Cartridges, and texts and digests that were changed.
@@ -123,6 +127,8 @@ struct Bytes {
     stops: Vec<u8>,
     blank: Vec<u8>,
     bad: Vec<u8>,
+    unended: Vec<u8>,
+    twice: Vec<u8>,
     profile: Vec<u8>,
     cart: Vec<u8>,
     movie: Vec<u8>,
@@ -142,6 +148,8 @@ fn bytes_of<R: Abort>(rt: &R, alloc: Global) -> Bytes {
         stops: image_of(rt, alloc, STOPS),
         blank: changed(rt, alloc, blank.as_slice(), 0xffd, 0),
         bad: cut_after(rt, alloc, COUNTS_MOVIE, 4, b"R...\n"),
+        unended: cut_after(rt, alloc, COUNTS_MOVIE, 4, b"..... ..... ....."),
+        twice: cut_after(rt, alloc, COUNTS_MOVIE, 3, b"..... ..... .....\n"),
         profile: changed_in(rt, alloc, DIGEST_BY_2, 2),
         cart: changed_in(rt, alloc, DIGEST_BY_2, 3),
         movie: changed_in(rt, alloc, DIGEST_BY_2, 4),
@@ -155,7 +163,7 @@ fn bytes_of<R: Abort>(rt: &R, alloc: Global) -> Bytes {
 }
 
 /// The files of the rows above.
-fn files_of(all: &Bytes) -> [Held<'_>; 26] {
+fn files_of(all: &Bytes) -> [Held<'_>; 28] {
     [
         (b"a", COUNTS_MOVIE),
         (b"a with spaces", COUNTS_MOVIE),
@@ -181,6 +189,8 @@ fn files_of(all: &Bytes) -> [Held<'_>; 26] {
         (b"stops", STOPS_MOVIE),
         (b"s", all.stops.as_slice()),
         (b"bad", all.bad.as_slice()),
+        (b"unended", all.unended.as_slice()),
+        (b"twice", all.twice.as_slice()),
         (
             b"=6707df007cd9f49721b2a8942c02ead96586dd0aa6e2c8ad328dbe2deba4e585",
             all.counts.as_slice(),
@@ -202,15 +212,39 @@ fn each_movie_has_its_line(rt: HostRuntime) {
         failing: b"",
         fails_at: 0,
     };
-    let (manifest, mut wanted) = all_rows(&rt, alloc, &ROWS);
-    expect_ok(&rt, wanted.extend_from_slice(b"8 of 30 ok\n"));
+    let (mut manifest, mut wanted) = (Vec::new(alloc), Vec::new(alloc));
+    add_rows(&rt, &ROWS, &mut manifest, &mut wanted);
+    expect_ok(&rt, wanted.extend_from_slice(b"8 of 32 ok\n"));
     for workers in [0, 3, MAX_WORKERS.wrapping_add(1)] {
         let (out, tally) = run_on(&rt, alloc, workers, &books, manifest.as_slice());
         check_same(&rt, workers, out.as_slice(), wanted.as_slice());
         let all = Tally {
-            movies: 30,
+            movies: 32,
             same: 8,
         };
         check_that(&rt, workers, tally == all);
     }
+}
+
+/// As many frames as a movie has at most, and one more.
+const LONGEST: &[u8] =
+    b"a26movie 2\ncart 6707df007cd9f49721b2a8942c02ead96586dd0aa6e2c8ad328dbe2deba4e585\n..... ..... ..... x262144\nR.... ..... .....\n";
+
+#[test]
+fn a_movie_of_too_many_frames_has_its_line(rt: HostRuntime) {
+    let alloc = rt.alloc();
+    let counts = image_of(&rt, alloc, COUNTS);
+    let files: [Held<'_>; 3] = [
+        (b"a", LONGEST),
+        (b"c", counts.as_slice()),
+        (b"1", DIGEST_BY_1),
+    ];
+    let books = Books {
+        files: &files,
+        failing: b"",
+        fails_at: 0,
+    };
+    let (out, _) = run_on(&rt, alloc, 1, &books, b"a c 1\n");
+    let wanted: &[u8] = b"a: movie line 4: too many\n0 of 1 ok\n";
+    check_same(&rt, 0, out.as_slice(), wanted);
 }

@@ -12,7 +12,7 @@ pub type Held<'a> = (&'a [u8], &'a [u8]);
 pub struct Books<'a> {
     /// The files by their names, and the cartridges.
     pub files: &'a [Held<'a>],
-    /// The file whose read fails.
+    /// The file whose read fails, a cartridge with `=` and its SHA-256.
     pub failing: &'a [u8],
     /// Which of its reads does, counted from 1; 0: none.
     pub fails_at: usize,
@@ -25,18 +25,24 @@ fn reader_of(bytes: &[u8], fails_at: usize) -> Giver<'_> {
     giver
 }
 
+impl Books<'_> {
+    /// Which read of this file fails; 0: none.
+    fn fails_at(&self, name: &[u8]) -> usize {
+        if self.failing == name {
+            self.fails_at
+        } else {
+            0
+        }
+    }
+}
+
 impl<'a> Shelf for Books<'a> {
     type File = Giver<'a>;
 
     fn open(&self, name: &[u8]) -> Option<Giver<'a>> {
-        let fails_at = if self.failing == name {
-            self.fails_at
-        } else {
-            0
-        };
         for (other, bytes) in self.files {
             if *other == name {
-                return Some(reader_of(bytes, fails_at));
+                return Some(reader_of(bytes, self.fails_at(name)));
             }
         }
         None
@@ -45,7 +51,7 @@ impl<'a> Shelf for Books<'a> {
     fn find(&self, digits: &[u8]) -> Option<Giver<'a>> {
         for (other, bytes) in self.files {
             if other.strip_prefix(b"=") == Some(digits) {
-                return Some(reader_of(bytes, 0));
+                return Some(reader_of(bytes, self.fails_at(other)));
             }
         }
         None

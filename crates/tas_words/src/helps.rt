@@ -80,7 +80,7 @@ stick's nine directions, and the same with fire. NAMES has a name and an address
 'x 85'. With --hold a choice is held for N frames, and FRAMES is a multiple of N.
 With --first 2/3 only the second of three parts is searched: the sequences that begin with the
 second third of the choices. If no part stopped, the best of the parts is the best of all, so
-several processes can share a search. The verdict on a part begins with 'part 2 of 3: '.
+several processes can search parts of it. The verdict on a part begins with 'part 2 of 3: '.
 Standard output is a script for 'tas edit' that writes the best sequence into the movie: of those
 that are as good the first one, in the order of the choices.
 The sequences of one choice are searched first, then those of two, and so on. The different states
@@ -100,8 +100,9 @@ Examples:
 pub(crate) const VERIFY_HELP: &str = "\
 Standard input is a manifest, a line for each movie: the movie's file, the cartridge's file or its
 SHA-256 in 64 lower case hexadecimal digits, and the file with the digest that 'tas digest' made of
-them. Between the words is a tab where the line has one, so that names may have spaces, and else a
-space. A '#' and all after it is a remark, and a line may be empty.
+them. A '#' and all after it is a remark, and so are the spaces before it. A line may be empty.
+Between the words are tabs where the line has one before its remark, so that names may have spaces,
+and else spaces.
 Each movie is played, and standard output has a line for each, in the manifest's order: its name and
   ok                     its digest is still the one that was stored, in the same stretches
   differs at K           it differs first in the stretch that begins with frame K

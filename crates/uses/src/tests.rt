@@ -144,6 +144,8 @@ fn movies_of_a_manifest(rt: HostRuntime) -> Result<()> {
     assert!(rt;
         !are_same(
             &rt,
+            rt.alloc(),
+            &rt,
             b"no.movie no.bin no.digest # none is there\n",
             &mut lines
         )?

@@ -32,3 +32,6 @@ returns-in-NotAll g c = rw (c.in-Err.is, c.in-NotAll.is)
 
 pub returns-in-NoReport : goal.returns-in-NoReport
 returns-in-NoReport g c = rw (c.in-Err.is, c.in-NoReport.is)
+
+pub returns-in-UnsyncedReport : goal.returns-in-UnsyncedReport
+returns-in-UnsyncedReport g c = rw (c.in-Err.is, c.in-UnsyncedReport.is)

@@ -1,13 +1,12 @@
 use Rattle.std.proofs.Common.{sym}
 use Rattle.tas_program.specs.Files.{files_by}
-use Rattle.tas_program.proofs.SearchLemmas.{any_reported, ends_other, ends_reported, ends_talk}
+use Rattle.tas_program.proofs.SearchLemmas.{ends_other, ends_reported, ends_talk}
 use Rattle.tas_program.proofs.searching.do_task.Goals as goal
 
 pub returns-in-Some : goal.returns-in-Some
 returns-in-Some g c =
     ends_reported g.F.Folder.steps (files_by (g.F.Folder.bytes_of c.args.folder.now) (g.F.Folder.held_by c.args.folder.now) (g.F.Folder.shown c.args.folder.now)) c.args.task c.in-Some.words (g.E.Write.contents c.args.errors.now) (g.E.Write.contents c.run_reported.new.errors) (record { input = g.R.Read.remaining c.args.input.now; output = g.W.Write.contents c.args.output.now })
-    (record { input = g.R.Read.remaining c.run_reported.new.input; output = g.W.Write.contents c.run_reported.new.output }) c.run_reported.result (sym c.in-Some.ensures)
-    (any_reported g.F.Folder.steps _ c.in-Some.words _ _ _ _ _ c.run_reported.ensures)
+    (record { input = g.R.Read.remaining c.run_reported.new.input; output = g.W.Write.contents c.run_reported.new.output }) c.run_reported.result (sym c.in-Some.ensures) c.run_reported.ensures
 
 pub returns-in-Some-talk_of : goal.returns-in-Some-talk_of
 returns-in-Some-talk_of g c =

@@ -1,9 +1,8 @@
-use Rattle.std.proofs.Common.{List, ℕ, ◌∙◌, ap, sym, subst}
+use Rattle.std.proofs.Common.{List, ℕ, inl, inr, map, refl, ◌∙◌, ap, sym, subst}
 use Rattle.tas_verify.specs.Manifest.{words_in}
 use Rattle.tas_verify.specs.Rows.{IsAnother}
-use Rattle.tas_verify.proofs.RowLemmas.{cart_another, cart_memory, cart_judged}
+use Rattle.tas_verify.proofs.RowLemmas.{cart_another, cart_judged}
 use Rattle.tas_verify.proofs.ManifestLemmas.{clash}
-use Rattle.std.proofs.Common.{map}
 use Rattle.tas_verify.proofs.playing.judge_cart.Goals as goal
 
 pub returns-then-is_another : goal.returns-then-is_another
@@ -12,9 +11,15 @@ returns-then-is_another g c =
 
 pub returns-in-Ok-in_a_list : goal.returns-in-Ok-in_a_list
 returns-in-Ok-in_a_list g c =
-    cart_judged (g.S.Shelf.facts c.args.shelf.now) (words_in c.args.row) c.args.text.items c.in-Ok.image.items _ c.in-Ok.ensures.read
+    cart_judged (g.S.Shelf.facts c.args.shelf.now) (words_in c.args.row) c.args.text.items c.in-Ok.image.items _ c.in-Ok.ensures.finds c.in-Ok.ensures.read
     (λ a. clash c.is_another.result c.if-is_another.false (c.is_another.ensures.1 (subst (λ (i : List ℕ). IsAnother c.args.row.cart.now i) (sym c.as_slice.ensures.value) a)))
-    (c.judge_digest.ensures c.in-Ok.image.items c.args.text.items (ap (map (λ b. b.items)) c.as_slice-in-Ok-in_a_list.ensures.value ∙ c.in-Ok-in_a_list.ensures))
+    (inr (c.judge_digest.ensures c.in-Ok.image.items c.args.text.items (ap (map (λ b. b.items)) c.as_slice-in-Ok-in_a_list.ensures.value ∙ c.in-Ok-in_a_list.ensures)))
 
 pub returns-in-Err-in_a_list : goal.returns-in-Err-in_a_list
-returns-in-Err-in_a_list g c = cart_memory (g.S.Shelf.facts c.args.shelf.now) (words_in c.args.row) c.args.text.items c.in-Ok.image.items c.in-Ok.ensures.read
+returns-in-Err-in_a_list g c =
+    cart_judged (g.S.Shelf.facts c.args.shelf.now) (words_in c.args.row) c.args.text.items c.in-Ok.image.items _ c.in-Ok.ensures.finds c.in-Ok.ensures.read
+    (λ a. clash c.is_another.result c.if-is_another.false (c.is_another.ensures.1 (subst (λ (i : List ℕ). IsAnother c.args.row.cart.now i) (sym c.as_slice.ensures.value) a)))
+    (inl refl)
+
+pub returns-in-Err : goal.returns-in-Err
+returns-in-Err g c = (c.in-Err.ensures.there, inl c.in-Err.ensures.fault)
