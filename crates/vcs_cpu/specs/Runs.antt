@@ -43,6 +43,12 @@ module _ {Content : Type 0} (d : Device Content) (s : Settling Content) where
 abbrev pub IsSettled : {Content : Type 0} → Settling Content → Content → Content → Bool → Type 0
 IsSettled s before after over = (after ≡ s.after before) × (over ≡ s.is_over after)
 
+-- some bus with this content settles to the one after, and the run is over or not
+pub record SettledFrom {Bus Content : Type 0} (content_of : Bus → Content) (Settles : Bus → Bus → Bool → Type 0) (c : Content) (after : Bus) (over : Bool) : Type 0 where
+  pub bus : Bus
+  pub is : content_of bus ≡ c
+  pub settles : Settles bus after over
+
 -- buses settle as the settling says of their contents, and it stops a run just before an instruction that reads at a watched address
 pub record SettlesBy {Bus Content : Type 0} (d : Device Content) (content : Bus → Content) (Settles : Bus → Bus → Bool → Type 0) (is_watched : Bus → ℕ → Bool) (s : Settling Content) : Type 0 where
   pub settles : (before after : Bus) (over : Bool) → Settles before after over → IsSettled s (content before) (content after) over

@@ -30,6 +30,7 @@ use crate::operation::Operation;
 use crate::polls::go_on_by_load;
 use crate::reads::reads_watched;
 use crate::regs::Regs;
+use crate::stores::go_on_by_store;
 use crate::{mode, operation};
 
 /// Executes the instruction at the program counter, whose opcode, code and row are given, and returns
@@ -93,12 +94,13 @@ fn perform_any<B: Settle>(
     perform_and_settle(opcode, code, op, mode, cycles, crossing, regs, bus, halt)
 }
 
-/// Goes on by the instruction of an opcode: by a row of its own, which says opcode, operation, mode, cycles and whether a
-/// crossed page adds one, or by a block: the one before the rows is for LDA absolute, which may begin polls, and the one
-/// after them for all other opcodes. Returns the registers where the run is over.
+/// Goes on by an opcode's arm. The blocks before `rows` are for LDA absolute, which may begin polls, and for stores of a
+/// zero-page address. A row says opcode, operation, mode, cycles and whether a crossed page adds one. The last block is for
+/// all other opcodes. Returns the registers where the run is over.
 macro_rules! go_on_by_row {
     ($opcode:ident, $code:ident, $regs:ident, $bus:ident, $halt:ident;
-     $polled:literal => $load:block
+     $($special:literal => $block:block)*
+     rows
      $($number:literal => $op:expr, $mode:expr, $cycles:literal, $crossing:literal;)*
      _ => $rest:block) => {
         match $opcode {
@@ -107,7 +109,7 @@ macro_rules! go_on_by_row {
                     return $regs;
                 }
             })*
-            $polled => $load
+            $($special => $block)*
             _ => $rest
         }
     };
@@ -137,6 +139,9 @@ pub fn run_until_over<B: Settle>(regs: &mut Regs, bus: &mut B, most: u32) -> Opt
     // Polls that a bus lets pass at once leave registers, content and time as their instructions do one by one.
     // Refused: polled_byte_is_not_loaded, poll_by_beq_goes_on_like_one_by_bne, polls_leave_z*,
     // poll_ends_by_the_other_branch*, polls_that_cross_a_page_take_longer*.
+    // STA, STX and STY of a zero-page address, one call of the bus, leave what the cycles, the write and the settling leave
+    // one after the other, and stop the run as any instruction does.
+    // Refused: store_to_page_0_takes_four_cycles, store_to_page_0_has_one_byte*, watched_store_goes_on.
     ensures ended { run_within B.device settling most regs.old (B.content bus.old)
         ≡ Some (record { regs = regs.new; content = B.content bus.new; halt = result }) }
     ensures fixed { B.fixed bus.new ≡ B.fixed bus.old }
@@ -148,7 +153,7 @@ pub fn run_until_over<B: Settle>(regs: &mut Regs, bus: &mut B, most: u32) -> Opt
 
 /// As [`run_until_over`], with the registers in a local variable. An arm borrows it only for calls that are marked to be
 /// inlined, so that the compiler can keep it in the processor's own registers. 106 frequent opcodes have an arm of their
-/// own, the other 45 go by the table; an arm says what the opcode's row says. No instructions are counted, since the run
+/// own, the other 45 go by the table; a row here says what the opcode's row says. No instructions are counted, since the run
 /// ends. A halt, which comes once in a run at most, goes out by `halt`: the result is the registers alone.
 #[tactic(auto, unfolding(crate::specs::Rows::instruction_of, crate::specs::Rows::row_of))]
 fn run_by_value<B: Settle>(first: Regs, bus: &mut B, most: u32, halt: &mut Option<Halt>) -> Regs
@@ -174,6 +179,22 @@ fn run_by_value<B: Settle>(first: Regs, bus: &mut B, most: u32, halt: &mut Optio
                     return regs;
                 }
             }
+            0x84 => {
+                if go_on_by_store(opcode, code, Store::Sty, &mut regs, bus, halt) {
+                    return regs;
+                }
+            }
+            0x85 => {
+                if go_on_by_store(opcode, code, Store::Sta, &mut regs, bus, halt) {
+                    return regs;
+                }
+            }
+            0x86 => {
+                if go_on_by_store(opcode, code, Store::Stx, &mut regs, bus, halt) {
+                    return regs;
+                }
+            }
+            rows
             0x05 => Read::Ora, mode::ZeroPage, 3, false;
             0x06 => Modify::Asl, mode::ZeroPage, 5, false;
             0x09 => Read::Ora, mode::Immediate, 2, false;
@@ -220,9 +241,6 @@ fn run_by_value<B: Settle>(first: Regs, bus: &mut B, most: u32, halt: &mut Optio
             0x78 => Implied::Sei, mode::Implied, 2, false;
             0x79 => Read::Adc, mode::AbsoluteY, 4, true;
             0x7d => Read::Adc, mode::AbsoluteX, 4, true;
-            0x84 => Store::Sty, mode::ZeroPage, 3, false;
-            0x85 => Store::Sta, mode::ZeroPage, 3, false;
-            0x86 => Store::Stx, mode::ZeroPage, 3, false;
             0x88 => Implied::Dey, mode::Implied, 2, false;
             0x8a => Implied::Txa, mode::Implied, 2, false;
             0x8c => Store::Sty, mode::Absolute, 4, false;

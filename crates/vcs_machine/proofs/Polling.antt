@@ -24,7 +24,7 @@ use Rattle.vcs_machine.specs.Bus.{Board, Observed, observed_of, byte_of, loaded,
 use Rattle.vcs_machine.specs.Inside.Chips.{IsStill}
 use Rattle.vcs_machine.specs.Inside.Times.{end_time}
 use Rattle.vcs_machine.specs.Inside.Waiting.{IsWait, MayWait}
-use Rattle.vcs_machine.specs.Inside.Console.{content_of, ticks_of, clocks_of}
+use Rattle.vcs_machine.specs.Inside.Console.{content_of, ticks_of, clocks_of, settles_of}
 use Rattle.vcs_machine.specs.Frame.{console_settling}
 use Rattle.vcs_machine.specs.declared.bus.ConsoleBus.{ConsoleBus}
 use Rattle.vcs_machine.specs.declared.observer.Observer.{Ghosts}
@@ -158,10 +158,6 @@ module _ {Seen : Type 0} (observe : List Tia → Seen → Seen) (nil : (s : Seen
       read = subst (Rests (bus_device observe) content_of Settles) (sym (later-read n waits)) read;
       branch = subst (Rests (bus_device observe) content_of Settles) (sym (later-poll n waits)) end;
     }
-
--- how buses settle
-abbrev pub settles_of : {O : Type 0} {observer : Ghosts O} → ConsoleBus O observer → ConsoleBus O observer → Bool → Type 0
-settles_of {O} {observer} before after over = IsSettled (console_settling observer.observe) (content_of before) (content_of after) over
 
 -- a bus whose RIOT has caught up
 module _ {O : Type 0} {observer : Ghosts O} (nil : (s : observer.Seen) → observer.observe [] s ≡ s)

@@ -1,5 +1,5 @@
 -- Which reads show the input.
-use Rattle.std.proofs.Common.{◌≡◌, ℕ, zero, suc, ◌+◌, ◌/◌, ◌%◌, ◌==◌, ◌<◌, ◌≤◌, ◌∙◌, ◌&&◌, ◌||◌, ap, sym, refl, Bool, true, false, List, [], ◌∷◌, arith}
+use Rattle.std.proofs.Common.{◌≡◌, ℕ, zero, suc, ◌/◌, ◌%◌, ◌==◌, ◌<◌, ◌≤◌, ◌∙◌, ◌&&◌, ◌||◌, ap, sym, refl, Bool, true, false, List, [], ◌∷◌, arith}
 use Rattle.std.specs.List.{list_any}
 use Rattle.std.proofs.lemmas.Bool.Decides.{nat_tests}
 use Rattle.vcs_cpu.specs.declared.bus.Poll.{Poll}
@@ -8,7 +8,6 @@ use Rattle.vcs_cpu.specs.Polls.{IsPollUnwatched}
 use Rattle.vcs_cpu.specs.Reads.{IsCodeUnwatched}
 use Rattle.vcs_riot.specs.Address.{is_high}
 use Rattle.vcs_riot.specs.Chip as riot
-use Rattle.vcs_tia.specs.Tia as tia
 use Rattle.vcs_machine.specs.declared.address.Region.TheVariants as region
 use Rattle.vcs_machine.specs.Address.{selected, is_ram, is_timer}
 use Rattle.vcs_machine.specs.Bus.{Board}

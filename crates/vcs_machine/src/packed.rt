@@ -8,6 +8,7 @@
 
 ghost use Rattle.std.specs.Prelude.{◌≡◌, ◌↔◌, IsTrue};
 ghost use Rattle.vcs_machine.specs.Equality.{are_same_machines};
+ghost use Rattle.vcs_tia.specs.Tia.{places_of};
 
 use crate::state::State;
 use std::fmt::{self, Debug, Formatter, Write};
@@ -80,6 +81,16 @@ impl PackedState {
         ensures { result ≡ self.now.riot.ram }
     {
         *self.riot.ram()
+    }
+
+    /// The places of the TIA's players 0 and 1, of its missiles 0 and 1, and of its ball, as pixels.
+    /// (Stella Programmer's Guide, "Horizontal Positioning")
+    pub fn places(&self) -> [u8; 5]
+        // The five places are those of the state's TIA.
+        // Refused: packed_places_are_0.
+        ensures { result ≡ places_of self.now.tia }
+    {
+        self.tia.places()
     }
 }
 

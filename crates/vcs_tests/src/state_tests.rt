@@ -1,5 +1,5 @@
 //! States are equal only where all their parts are, and so are packed states: pairs of programs whose machines differ in one
-//! part.
+//! part. A packed state's places are those of its TIA.
 
 use crate::carts::program;
 use crate::checks::{check_same, check_that};
@@ -211,6 +211,30 @@ fn states_that_differ_in_a_register(rt: HostRuntime) {
 #[test]
 fn states_that_differ_in_a_part(rt: HostRuntime) {
     check_pairs(&rt, rt.alloc(), &PARTS);
+}
+
+/// Programs, and the places of players 0 and 1, missiles 0 and 1 and the ball after a frame.
+static PLACES: [(&'static [u8], [u8; 5]); 3] = [
+    // a jump to itself
+    (b"\x4c\x00\xf0", [0; 5]),
+    // STA RESP0, RESP1, RESM0, RESM1 and RESBL at clocks 9, 18, 27, 36 and 45 of line 0, in the blank
+    (
+        b"\x85\x10\x85\x11\x85\x12\x85\x13\x85\x14\x4c\x0a\xf0",
+        [3, 3, 2, 2, 2],
+    ),
+    // twelve NOPs, then the same at clocks 81, 90, 99, 108 and 117
+    (
+        b"\xea\xea\xea\xea\xea\xea\xea\xea\xea\xea\xea\xea\x85\x10\x85\x11\x85\x12\x85\x13\x85\x14\x4c\x16\xf0",
+        [18, 27, 35, 44, 53],
+    ),
+];
+
+#[test]
+fn places_of_a_packed_state(rt: HostRuntime) {
+    for (row, (code, places)) in PLACES.iter().enumerate() {
+        let state = after(&rt, rt.alloc(), *code, 1);
+        check_same(&rt, ("row", row), state.pack().places(), *places);
+    }
 }
 
 /// Addresses, and two bytes that leave different machines where they are written there.

@@ -1,7 +1,9 @@
--- What a bus holds and shows as a whole. Only the private functions of the bus cite this file.
-use Rattle.std.specs.Prelude.{ℕ, ◌-◌, ◌*◌, List}
+-- What a bus holds and shows as a whole, and how it settles. Only the private functions of the bus cite this file.
+use Rattle.std.specs.Prelude.{ℕ, ◌-◌, ◌*◌, List, Bool}
+use Rattle.vcs_cpu.specs.Runs.{IsSettled}
 use Rattle.vcs_riot.specs.declared.chip.Pins.{Pins}
 use Rattle.vcs_machine.specs.Bus.{Observed, observed_of, after_time}
+use Rattle.vcs_machine.specs.Frame.{console_settling}
 use Rattle.vcs_machine.specs.declared.observer.Observer.{Ghosts}
 use Rattle.vcs_machine.specs.declared.bus.ConsoleBus.{ConsoleBus}
 
@@ -29,3 +31,7 @@ module _ {O : Type 0} {observer : Ghosts O} where
   -- what no call on the bus changes: bytes and pins, and which chips and observer it holds
   abbrev pub fixed_of : ConsoleBus O observer → List ℕ × (Pins × (ℕ × (ℕ × ℕ)))
   fixed_of b = (b.rom.now, (b.pins, (b.riot.ghost_name, (b.tia.ghost_name, b.observer.ghost_name))))
+
+  -- how buses settle: the wait passes, and then the frame may be over
+  abbrev pub settles_of : ConsoleBus O observer → ConsoleBus O observer → Bool → Type 0
+  settles_of before after over = IsSettled (console_settling observer.observe) (content_of before) (content_of after) over

@@ -10,6 +10,7 @@
 
 ghost use Rattle.std.specs.Prelude.{◌≡◌, ◌↔◌, IsTrue};
 ghost use Rattle.vcs_tia.specs.Inside.PackedEquality.{are_same_tias};
+ghost use Rattle.vcs_tia.specs.Tia.{places_of};
 
 use super::flags::{flag, latch_flags, latches_of, setting_flags, word_of};
 use super::{Button, Colours, Fire, Sync, Tia};
@@ -320,6 +321,23 @@ impl PackedTia {
                 },
             },
         }
+    }
+
+    /// The places of players 0 and 1, of missiles 0 and 1, and of the ball: pixels, each below 160.
+    /// (Stella Programmer's Guide, "Horizontal Positioning")
+    pub fn places(&self) -> [u8; 5]
+        // The five places are those of the TIA that was packed.
+        // Refused: packed_missile_1_is_where_missile_0_is.
+        ensures { result ≡ places_of self.now }
+    {
+        let parts = self.parts;
+        [
+            parts.player0.place.pixel(),
+            parts.player1.place.pixel(),
+            parts.missile0.place.pixel(),
+            parts.missile1.place.pixel(),
+            parts.ball.place.pixel(),
+        ]
     }
 }
 

@@ -1,5 +1,4 @@
-use Rattle.std.proofs.Common.{◌≡◌, ◌∙◌, ap, sym, refl, Bool, false}
-use Rattle.vcs_cpu.specs.declared.opcode.Instruction.{Instruction}
+use Rattle.std.proofs.Common.{◌≡◌, ◌∙◌, sym, refl, false}
 use Rattle.vcs_cpu.specs.Runs.{Settling, SettlesBy}
 use Rattle.vcs_cpu.proofs.Watching.{any_read-documented}
 use Rattle.vcs_cpu.proofs.RunLemmas.{leads_on, settled_end, stopped_end}

@@ -1,4 +1,4 @@
-use Rattle.std.proofs.Common.{◌≡◌, ◌∙◌, ap, sym, refl, Bool, false}
+use Rattle.std.proofs.Common.{◌≡◌, ◌∙◌, sym, refl, false}
 use Rattle.vcs_cpu.specs.Runs.{Settling, SettlesBy}
 use Rattle.vcs_cpu.proofs.Stepping.{step_of-undocumented}
 use Rattle.vcs_cpu.proofs.Watching.{any_read-undocumented}

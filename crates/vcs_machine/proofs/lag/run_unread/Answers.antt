@@ -1,5 +1,5 @@
 use contract.BorrowLft.{⊑_meet, ⊑_refl, ⊑_static}
-use Rattle.std.proofs.Common.{◌∙◌, ◌||◌, Bool, is_some, ap, sym, refl, arith}
+use Rattle.std.proofs.Common.{◌∙◌, ◌||◌, Bool, is_some, ap, arith}
 use Rattle.vcs_tia.specs.Tia.{clocks_passed}
 use Rattle.vcs_machine.specs.Bus.{Observed}
 use Rattle.vcs_machine.specs.Inside.Console.{content_of, clocks_of}
