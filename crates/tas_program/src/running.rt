@@ -443,7 +443,7 @@ pub fn carry_out<
     }
 }
 
-/// The whole program: reads the words, the first of which is its name, and does what they ask for. clap, `Task::Search`, `Task::Recover`, `Task::Verify` and
+/// The whole program: reads the words, the first of which is its name, and does what they ask for. clap, `Task::Recover`, `Task::Verify` and
 /// `Task::Desk` take their memory from `global` alone, all else from `alloc`. Somebody at a terminal is told what a task waits for
 /// ([`tell_waiting`]), once no word of it is at fault.
 pub fn run_program<

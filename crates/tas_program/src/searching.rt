@@ -74,11 +74,11 @@ fn asked_of<'a>(words: SearchWords<'a>) -> Search<'a>
 }
 
 /// Opens the files of a search, in order.
-fn open_inputs<F: Folder>(
-    alloc: Global,
+fn open_inputs<A: Allocator, F: Folder>(
+    alloc: A,
     words: SearchWords<'_>,
     folder: &F,
-) -> Result<Vec<F::File>, ToolFault>
+) -> Result<Vec<F::File, A>, ToolFault>
     ensures files { IfOk result (λ files. map F.File.remaining files.items
         ≡ search_files
         (files_by (F.bytes_of folder.now) (F.held_by folder.now) (F.shown folder.now)) words.entry) }
@@ -99,16 +99,24 @@ fn open_inputs<F: Folder>(
 }
 
 /// Searches by these words over files that are open, reports its layers, writes the script and returns the verdict.
-fn search_over<T: Threads + Clock + Sync, C: Read, R: Read, W: Write, E: Write, P: Write>(
+fn search_over<
+    T: Threads + Clock + Sync,
+    A: Allocator + Copy + Send + Sync,
+    C: Read,
+    R: Read,
+    W: Write,
+    E: Write,
+    P: Write,
+>(
     rt: &T,
-    alloc: Global,
+    alloc: A,
     words: SearchWords<'_>,
     files: &mut [C],
     input: &mut R,
     output: &mut W,
     errors: &mut E,
     report: &mut P,
-) -> Result<Vec<u8>, TaskFault>
+) -> Result<Vec<u8, A>, TaskFault>
     ensures { SearchesOver words.entry (map C.remaining files.old) (map C.remaining files.new)
         (record { input = R.remaining input.old; output = W.contents output.old })
         (record { input = R.remaining input.new; output = W.contents output.new })
@@ -141,16 +149,24 @@ pub(crate) fn write_report<E: Write>(
 }
 
 /// Opens the files of a search by these words, reports its layers, writes the script and returns the verdict.
-fn verdict_of<T: Threads + Clock + Sync, F: Folder, R: Read, W: Write, E: Write, P: Write>(
+fn verdict_of<
+    T: Threads + Clock + Sync,
+    A: Allocator + Copy + Send + Sync,
+    F: Folder,
+    R: Read,
+    W: Write,
+    E: Write,
+    P: Write,
+>(
     rt: &T,
-    alloc: Global,
+    alloc: A,
     words: SearchWords<'_>,
     folder: &F,
     input: &mut R,
     output: &mut W,
     errors: &mut E,
     report: &mut P,
-) -> Result<Vec<u8>, TaskFault>
+) -> Result<Vec<u8, A>, TaskFault>
     ensures { Searches (files_by (F.bytes_of folder.now) (F.held_by folder.now) (F.shown folder.now))
         words.entry
         (record { input = R.remaining input.old; output = W.contents output.old })
@@ -175,8 +191,8 @@ fn verdict_of<T: Threads + Clock + Sync, F: Folder, R: Read, W: Write, E: Write,
 }
 
 /// Writes the verdict of a search, where there is one, to the report and to standard error.
-fn write_verdict<E: Write, P: Write>(
-    done: Result<Vec<u8>, TaskFault>,
+fn write_verdict<A: Allocator, E: Write, P: Write>(
+    done: Result<Vec<u8, A>, TaskFault>,
     errors: &mut E,
     report: &mut P,
 ) -> Result<(), TaskFault>
@@ -198,9 +214,17 @@ fn write_verdict<E: Write, P: Write>(
 }
 
 /// Does a search with these two writers of its report.
-fn search_with<T: Threads + Clock + Sync, F: Folder, R: Read, W: Write, E: Write, P: Write>(
+fn search_with<
+    T: Threads + Clock + Sync,
+    A: Allocator + Copy + Send + Sync,
+    F: Folder,
+    R: Read,
+    W: Write,
+    E: Write,
+    P: Write,
+>(
     rt: &T,
-    alloc: Global,
+    alloc: A,
     words: SearchWords<'_>,
     folder: &F,
     input: &mut R,
@@ -258,9 +282,16 @@ fn close_report<F: Folder>(
 /// file can't be opened, `Search` of the search, and then the report has no verdict; `Report` where the verdict isn't written whole, and then
 /// the script is; `UnsyncedReport` where the file isn't brought to the disk, and then all is written. A file of a report that has no line at a
 /// fault is removed.
-pub fn run_search<T: Threads + Clock + Sync, F: Folder, R: Read, W: Write, E: Write>(
+pub fn run_search<
+    T: Threads + Clock + Sync,
+    A: Allocator + Copy + Send + Sync,
+    F: Folder,
+    R: Read,
+    W: Write,
+    E: Write,
+>(
     rt: &T,
-    alloc: Global,
+    alloc: A,
     words: SearchWords<'_>,
     permit: Permit,
     folder: &F,
@@ -307,9 +338,17 @@ pub fn run_search<T: Threads + Clock + Sync, F: Folder, R: Read, W: Write, E: Wr
 }
 
 /// Does a task that reports, as [`run_search`], [`run_recovery`] and [`run_verify`] do.
-fn run_reported<T: Threads + Clock + Sync, F: Folder + Sync, R: Read, W: Write, E: Write>(
+fn run_reported<
+    T: Threads + Clock + Sync,
+    A: Allocator + Copy + Send + Sync,
+    F: Folder + Sync,
+    R: Read,
+    W: Write,
+    E: Write,
+>(
     rt: &T,
-    alloc: Global,
+    global: Global,
+    alloc: A,
     words: Reported<'_>,
     permit: Permit,
     folder: &F,
@@ -327,16 +366,15 @@ fn run_reported<T: Threads + Clock + Sync, F: Folder + Sync, R: Read, W: Write, 
         Reported::Search(words) => {
             run_search(rt, alloc, words, permit, folder, input, output, errors)
         }
-        Reported::Recovery(words) => run_recovery(alloc, words, folder, input, output, errors),
+        Reported::Recovery(words) => run_recovery(global, words, folder, input, output, errors),
         Reported::Verification(words) => {
-            run_verify(rt, alloc, words, folder, input, output, errors)
+            run_verify(rt, global, words, folder, input, output, errors)
         }
     }
 }
 
 /// Does a task by its engine, over the input and the output; the report of a search, a recovery or a verification goes to `errors`, and the journal of a
-/// conversation to a new file. The first three and
-/// `Task::Desk` take their memory from `global`, each other task from `alloc`.
+/// conversation to a new file. A recovery, a verification and `Task::Desk` take their memory from `global`, each other task from `alloc`.
 pub(crate) fn do_task<
     T: Wait + Threads + Clock + Sync,
     A: Allocator + Copy + Send + Sync,
@@ -362,7 +400,9 @@ pub(crate) fn do_task<
         (record { input = R.remaining input.new; output = W.contents output.new }) result }
 {
     match reported_of(task) {
-        Some(words) => run_reported(rt, global, words, permit, folder, input, output, errors),
+        Some(words) => run_reported(
+            rt, global, alloc, words, permit, folder, input, output, errors,
+        ),
         None => match talk_of(task) {
             Some(words) => hold_words(rt, alloc, words, permit, folder, input, output).end,
             None => {

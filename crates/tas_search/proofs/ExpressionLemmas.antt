@@ -6,7 +6,7 @@ use Rattle.std.proofs.Math.Nat.{mul-le-mul, mul-le-mul_left}
 use mir.Syntax.{w64}
 use Rattle.tas_search.specs.declared.expression.Operator.{Operator}
 use Rattle.tas_search.specs.declared.expression.Operator.TheVariants.{Or, And, Equal, Unequal, Less, AtMost, Greater, AtLeast, Plus, Minus, Times}
-use Rattle.tas_search.specs.declared.expression.Expression.{Expression, Number, Byte, Bcd, Pair, Not', Both'}
+use Rattle.tas_search.specs.Grammar.{Tree, number, byte, digits, pair, negated, joined}
 use Rattle.tas_search.specs.Expression.{applied, truth, joined_weight, weight}
 
 pub truth_small : (t : Bool) → unsigned_abs (truth t) ≤ 1
@@ -81,13 +81,13 @@ joined_right Minus a b le = omega arith
 joined_positive : (op : Operator) (a b : ℕ) → 1 ≤ a → 1 ≤ b → 1 ≤ joined_weight op a b
 joined_positive op a b p q = omega (arith, joined_left op a b q)
 
-pub weight_positive : (e : Expression) → 1 ≤ weight e
-weight_positive (Number n) = omega arith
-weight_positive (Byte at) = omega arith
-weight_positive (Bcd at) = omega arith
-weight_positive (Pair at) = omega arith
-weight_positive (Not' p e) = omega arith
-weight_positive (Both' op p a q b) = joined_positive op (weight a) (weight b) (weight_positive a) (weight_positive b)
+pub weight_positive : (t : Tree) → 1 ≤ weight t
+weight_positive (number n) = omega arith
+weight_positive (byte at) = omega arith
+weight_positive (digits at) = omega arith
+weight_positive (pair at) = omega arith
+weight_positive (negated t) = omega arith
+weight_positive (joined op a b) = joined_positive op (weight a) (weight b) (weight_positive a) (weight_positive b)
 
 pub applied_fits : (op : Operator) (x y : ℤ) (a b : ℕ) → unsigned_abs x < a → unsigned_abs y < b → joined_weight op a b < 2 ^ 63 → FitsSigned w64 (applied op x y)
 applied_fits op x y a b p q h = fits_signed_from_abs w64 (applied op x y) (omega (arith, applied_below op x y a b p q))

@@ -4,13 +4,13 @@ use Rattle.std.proofs.Math.Nat.{mul-le-mul}
 use Rattle.vcs_inputs.specs.declared.input.Input.{Input}
 use Rattle.tas_movie.specs.Content.{MovieContent, most_inputs}
 use Rattle.tas_language.specs.declared.change.Change.{Change}
-use Rattle.tas_search.specs.declared.expression.Expression.{Expression}
 use Rattle.tas_search.specs.declared.goal.GoalKind.{GoalKind}
 use Rattle.tas_search.specs.declared.goal.GoalKind.TheVariants.{Reach, Most, Least}
 use Rattle.tas_search.specs.declared.movie_search.SearchRange.{SearchRange}
 use Rattle.tas_search.specs.Outcome.{Outcome, best, nothing, stopped}
 use Rattle.tas_search.specs.Space.{SpaceContent}
 use Rattle.tas_search.specs.GoalAnswer.{IsGoalAnswer}
+use Rattle.tas_search.specs.Grammar.{Tree}
 use Rattle.tas_search.specs.AnswerChanges.{IsSpaceOf, Writes}
 use Rattle.tas_search.specs.Inside.FoundChanges.{FitsMovie, AreChangesOf}
 use Rattle.tas_search.specs.MovieSearch.{space_of, fault_of, CanSearch, IsSearchFault, StopsSearching, WritesFound}
@@ -31,7 +31,7 @@ shorter_fits m n hold from le h = let less : m * hold ≤ n * hold = mul-le-mul 
     le_self k = omega arith
 
 -- what was found fits into the movie, since the longest sequences do
-pub found_fits : (s : SpaceContent) (kind : GoalKind) (e : Expression) (count states from : ℕ) (outcome : Outcome) → from + count * s.hold ≤ most_inputs → IsGoalAnswer s kind e count states outcome → FitsMovie from s.hold outcome
+pub found_fits : (s : SpaceContent) (kind : GoalKind) (e : Tree) (count states from : ℕ) (outcome : Outcome) → from + count * s.hold ≤ most_inputs → IsGoalAnswer s kind e count states outcome → FitsMovie from s.hold outcome
 found_fits s Reach e count states from (best ks) le h = shorter_fits (length ks) count s.hold from h.1 le
 found_fits s Most e count states from (best ks) le h = shorter_fits (length ks) count s.hold from (omega (arith, h.0.count)) le
 found_fits s Least e count states from (best ks) le h = shorter_fits (length ks) count s.hold from (omega (arith, h.0.count)) le
@@ -67,7 +67,7 @@ fits_less s states m n le fits = λ k from to over. fits k from (omega arith) ov
 last_extreme : (s : SpaceContent) (count states n : ℕ) (ks : List ℕ) → length ks ≡ count → FitsBelow s states (count + 1) → n ≡ length ks → (n ≤ count) × FitsBelow s states (n + 1)
 last_extreme s count states n ks all fits e = (omega (arith, e, all), subst (λ (k : ℕ). FitsBelow s states (k + 1)) (sym (e ∙ all)) fits)
 
-last_within : (s : SpaceContent) (kind : GoalKind) (e : Expression) (count states n : ℕ) (outcome : Outcome) → IsGoalAnswer s kind e count states outcome → IsLastLayer s count outcome n
+last_within : (s : SpaceContent) (kind : GoalKind) (e : Tree) (count states n : ℕ) (outcome : Outcome) → IsGoalAnswer s kind e count states outcome → IsLastLayer s count outcome n
     → (n ≤ count) × FitsBelow s states (n + 1)
 last_within s Reach e count states n (best ks) h last = last_reach s count states n ks h.1 h.2 last
 last_within s Most e count states n (best ks) h last = last_extreme s count states n ks h.0.count h.1 last
@@ -79,7 +79,7 @@ last_within s Reach e count states n (stopped k) h last = (omega (arith, last, h
 last_within s Most e count states n (stopped k) h last = (omega (arith, last, h.2), subst (FitsBelow s states) (sym last) h.0)
 last_within s Least e count states n (stopped k) h last = (omega (arith, last, h.2), subst (FitsBelow s states) (sym last) h.0)
 
-pub reported_stops : (s : SpaceContent) (kind : GoalKind) (e : Expression) (count states : ℕ) (outcome : Outcome) (old new : LogBytes) → IsGoalAnswer s kind e count states outcome
+pub reported_stops : (s : SpaceContent) (kind : GoalKind) (e : Tree) (count states : ℕ) (outcome : Outcome) (old new : LogBytes) → IsGoalAnswer s kind e count states outcome
     → IsReported s count outcome old new → StopsReporting s count states end.Memory old new
 reported_stops s kind e count states outcome old new answer h =
     let last = last_within s kind e count states (length h.times) outcome answer h.is_last in
@@ -97,7 +97,7 @@ goal_stops i names goal (NotSearched fault) old h = absurd h
 goal_stops i names goal Refused old h = absurd h
 
 -- one that isn't finished
-pub found_stops : (i : SearchInputs) (movie : MovieContent) (inputs : List Input) (kind : GoalKind) (e : Expression) (range : SearchRange) (error : SearchError) (old new : LogBytes) → Said i movie inputs kind e range
+pub found_stops : (i : SearchInputs) (movie : MovieContent) (inputs : List Input) (kind : GoalKind) (e : Tree) (range : SearchRange) (error : SearchError) (old new : LogBytes) → Said i movie inputs kind e range
     → IsCutReport (space_of movie inputs range) range error old new → StopsText i error old new
 found_stops i movie inputs kind e range (Read fault) old new said cut = absurd cut
 found_stops i movie inputs kind e range (Run fault) old new said cut = absurd cut

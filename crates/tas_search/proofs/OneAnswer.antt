@@ -4,7 +4,6 @@ use Rattle.std.specs.Prelude.{ℤ}
 use Rattle.std.proofs.lemmas.Bool.{cases_lt}
 use Rattle.std.proofs.lemmas.Int.{ints}
 use Rattle.vcs_machine.specs.Machine.{Machine}
-use Rattle.tas_search.specs.declared.expression.Expression.{Expression}
 use Rattle.tas_search.specs.declared.extremes.Aim.{Aim}
 use Rattle.tas_search.specs.declared.extremes.Aim.TheVariants as aim
 use Rattle.tas_search.specs.declared.goal.GoalKind.{GoalKind}
@@ -14,10 +13,9 @@ use Rattle.tas_search.specs.Expression.{value_of}
 use Rattle.tas_search.specs.Extreme.{IsAsGood, IsExtreme, IsExtremeAnswer}
 use Rattle.tas_search.specs.Goal.{holds_of, value_in}
 use Rattle.tas_search.specs.GoalAnswer.{IsGoalAnswer}
-use Rattle.tas_search.specs.Grammar.{tree_of}
+use Rattle.tas_search.specs.Grammar.{Tree}
 use Rattle.tas_search.specs.Outcome.{Outcome, best, nothing, stopped}
 use Rattle.tas_search.specs.Space.{SpaceContent, AreNumbers, AreChoices, reached, rank_from, rank}
-use Rattle.tas_search.proofs.OneGoal.{one_value as same_value}
 use Rattle.tas_search.proofs.OrderLemmas.{lower_stays}
 
 -- ---- one sequence of a length has a place
@@ -130,19 +128,10 @@ one_value s aim value n states (stopped j) (stopped k) h g = ap stopped (one_sto
 
 -- ---- by the goal
 
-by_kind : (s : SpaceContent) (kind : GoalKind) (e : Expression) (count states : ℕ) (x y : Outcome) → IsGoalAnswer s kind e count states x → IsGoalAnswer s kind e count states y → x ≡ y
+by_kind : (s : SpaceContent) (kind : GoalKind) (e : Tree) (count states : ℕ) (x y : Outcome) → IsGoalAnswer s kind e count states x → IsGoalAnswer s kind e count states y → x ≡ y
 by_kind s Reach e count states x y h g = one_reach s (holds_of (value_of e)) count states x y h g
 by_kind s Most e count states x y h g = one_value s aim.Most (value_in (value_of e)) count states x y h g
 by_kind s Least e count states x y h g = one_value s aim.Least (value_in (value_of e)) count states x y h g
 
--- an answer depends on nothing but what the expression makes of RAM
-by_value : (s : SpaceContent) (kind : GoalKind) (d e : Expression) (count states : ℕ) (x : Outcome) → value_of d ≡ value_of e → IsGoalAnswer s kind d count states x → IsGoalAnswer s kind e count states x
-by_value s Reach d e count states x same h = subst (λ (value : List ℕ → ℤ). IsReachAnswer s (holds_of value) count states x) same h
-by_value s Most d e count states x same h = subst (λ (value : List ℕ → ℤ). IsExtremeAnswer s aim.Most (value_in value) count states x) same h
-by_value s Least d e count states x same h = subst (λ (value : List ℕ → ℤ). IsExtremeAnswer s aim.Least (value_in value) count states x) same h
-
-pub one_answer : (s : SpaceContent) (kind : GoalKind) (d e : Expression) (count states : ℕ) (x y : Outcome) → tree_of d ≡ tree_of e → IsGoalAnswer s kind d count states x → IsGoalAnswer s kind e count states y → x ≡ y
-one_answer s kind d e count states x y same h g = by_kind s kind e count states x y (by_value s kind d e count states x values h) g
-  where
-    values : value_of d ≡ value_of e
-    values = λ i ram. same_value d e ram same i
+pub one_answer : (s : SpaceContent) (kind : GoalKind) (d e : Tree) (count states : ℕ) (x y : Outcome) → d ≡ e → IsGoalAnswer s kind d count states x → IsGoalAnswer s kind e count states y → x ≡ y
+one_answer s kind d e count states x y same h g = by_kind s kind e count states x y (subst (λ (t : Tree). IsGoalAnswer s kind t count states x) same h) g

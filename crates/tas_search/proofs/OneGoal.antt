@@ -1,16 +1,13 @@
--- A text is that of one goal at most, and what an expression says is all that its value depends on.
+-- A text is that of one goal at most.
 use Rattle.std.proofs.Common.{◌≡◌, ℕ, List, [], ◌∷◌, ◌++◌, get_or, refl, arith, sym, ap, subst, ◌∙◌, inl, inr}
-use Rattle.std.specs.Prelude.{ℤ, pos, not, codes, ◌+◌, ◌*◌, ◌%◌}
+use Rattle.std.specs.Prelude.{codes}
 use Rattle.byte_text.proofs.SplitLemmas.{same_front}
 use Rattle.tas_search.specs.declared.expression.Operator.{Operator}
-use Rattle.tas_search.specs.declared.expression.Expression.{Expression, Number, Byte, Bcd, Pair, Not', Both'}
 use Rattle.tas_search.specs.declared.goal.GoalKind.{GoalKind}
 use Rattle.tas_search.specs.declared.goal.GoalKind.TheVariants.{Reach, Most, Least}
 use Rattle.tas_search.specs.declared.word.Word.{Word}
 use Rattle.tas_search.specs.declared.word.Word.TheVariants as word
-use Rattle.tas_search.specs.Expression.{byte_at, bcd, truth, applied, value_of}
-use Rattle.tas_search.specs.Goal.{is_true}
-use Rattle.tas_search.specs.Grammar.{Tree, number, byte, digits, pair, negated, joined, tree_of, words_of, IsBare, Spells}
+use Rattle.tas_search.specs.Grammar.{Tree, number, byte, digits, pair, negated, joined, words_of, IsBare, Spells}
 use Rattle.tas_search.specs.GoalText.{kind_word, IsGoalText}
 use Rattle.tas_search.specs.Words.{Names, words_in}
 use Rattle.tas_search.proofs.GrammarLemmas.{nothing, one_tree, no_words, second}
@@ -76,25 +73,3 @@ pub one_goal : (names : Names) (text : List ℕ) (j k : GoalKind) (a b : Tree) �
 one_goal names text j k a b h g =
     let both = same_front 32 (kind_word j) (kind_word k) h.0 g.0 (kind_free j) (kind_free k) (sym h.1 ∙ g.1) in
     (one_kind j k both.0, one_spelled (words_in names h.0) a b h.2 (subst (λ (said : List ℕ). Spells (words_in names said) b) (sym both.1) g.2))
-
--- ---- one value
-
-tree_value : Tree → List ℕ → ℤ
-tree_value (number n) ram = pos n
-tree_value (byte at) ram = pos (byte_at ram at)
-tree_value (digits at) ram = bcd (byte_at ram at)
-tree_value (pair at) ram = pos (byte_at ram at + 256 * byte_at ram ((at + 1) % 256))
-tree_value (negated t) ram = truth (not (is_true (tree_value t ram)))
-tree_value (joined op a b) ram = applied op (tree_value a ram) (tree_value b ram)
-
-value_is : (e : Expression) (ram : List ℕ) → value_of e ram ≡ tree_value (tree_of e) ram
-unfolding tree_value
-value_is (Number n) ram = refl
-value_is (Byte at) ram = refl
-value_is (Bcd at) ram = refl
-value_is (Pair at) ram = refl
-value_is (Not' p e) ram = ap (λ (x : ℤ). truth (not (is_true x))) (value_is e ram)
-value_is (Both' op p a q b) ram = ap (λ (x : ℤ). applied op x (value_of b ram)) (value_is a ram) ∙ ap (applied op (tree_value (tree_of a) ram)) (value_is b ram)
-
-pub one_value : (a b : Expression) (ram : List ℕ) → tree_of a ≡ tree_of b → value_of a ram ≡ value_of b ram
-one_value a b ram e = value_is a ram ∙ ap (λ (t : Tree). tree_value t ram) e ∙ sym (value_is b ram)

@@ -7,11 +7,10 @@ use Rattle.tas_movie.proofs.TextLemmas.{frames_same}
 use Rattle.tas_movie.proofs.TwoTexts.{one_movie}
 use Rattle.tas_engines.specs.Movies.{IsMovieOf}
 use Rattle.tas_engines.specs.Scripts.{change_line}
-use Rattle.tas_search.specs.declared.expression.Expression.{Expression}
 use Rattle.tas_search.specs.declared.goal.GoalKind.{GoalKind}
 use Rattle.tas_search.specs.declared.movie_search.SearchRange.{SearchRange}
 use Rattle.tas_search.specs.declared.space_part.SpacePart.{SpacePart}
-use Rattle.tas_search.specs.Grammar.{tree_of}
+use Rattle.tas_search.specs.Grammar.{Tree}
 use Rattle.tas_search.specs.GoalText.{IsGoalText}
 use Rattle.tas_search.specs.Logs.{LogBytes}
 use Rattle.tas_search.specs.MovieSearch.{WritesFound, space_of}
@@ -34,10 +33,10 @@ same_choices : (given : Bool) (text : List ℕ) (a b : List Input) → AreGiven 
 same_choices true text a b h g = frames_same a b (sym h.is ∙ g.is)
 same_choices false text a b h g = h ∙ sym g
 
-same_goal : (names text : List ℕ) (j k : GoalKind) (d e : Expression) → IsGoalOver names text j d → IsGoalOver names text k e → (j ≡ k) × (tree_of d ≡ tree_of e)
+same_goal : (names text : List ℕ) (j k : GoalKind) (d e : Tree) → IsGoalOver names text j d → IsGoalOver names text k e → (j ≡ k) × (d ≡ e)
 same_goal names text j k d e h g =
-    one_goal g.known text j k (tree_of d) (tree_of e)
-    (subst (λ (known : Names). IsGoalText known text j (tree_of d)) (one_names names h.known g.known h.names_are g.names_are) h.goal_is) g.goal_is
+    one_goal g.known text j k d e
+    (subst (λ (known : Names). IsGoalText known text j d) (one_names names h.known g.known h.names_are g.names_are) h.goal_is) g.goal_is
 
 -- the same range, but for the number of workers
 abbrev with_workers : SearchRange → ℕ → SearchRange
@@ -54,11 +53,11 @@ same_range from frames hold states part a b h g =
 abbrev Same : (script script' verdict verdict' : List ℕ) (old new old' new' : LogBytes) → Type 0
 Same script script' verdict verdict' old new old' new' = (script ≡ script') × (verdict ≡ verdict') × DifferInTimes old new old' new'
 
-module _ (movie : MovieContent) (inputs : List Input) (kind : GoalKind) (d e : Expression) (range : SearchRange) (workers : ℕ) (script script' verdict verdict' : List ℕ) (old new old' new' : LogBytes) where
+module _ (movie : MovieContent) (inputs : List Input) (kind : GoalKind) (d e : Tree) (range : SearchRange) (workers : ℕ) (script script' verdict verdict' : List ℕ) (old new old' new' : LogBytes) where
   abbrev s : SpaceContent
   s = space_of movie inputs range
 
-  found_same : tree_of d ≡ tree_of e → IsFoundText movie inputs kind d range script verdict old new → IsFoundText movie inputs kind e (with_workers range workers) script' verdict' old' new'
+  found_same : d ≡ e → IsFoundText movie inputs kind d range script verdict old new → IsFoundText movie inputs kind e (with_workers range workers) script' verdict' old' new'
       → Same script script' verdict verdict' old new old' new'
   found_same trees h g =
       let outcome : g.outcome ≡ h.outcome = sym (one_answer s kind d e range.count range.states h.outcome g.outcome trees h.answer.1 g.answer.1) in

@@ -6,13 +6,13 @@ use Rattle.std.specs.List.{position, position_or_len}
 use Rattle.vcs_inputs.specs.declared.input.Input.{Input}
 use Rattle.tas_movie.specs.Content.{MovieContent, most_inputs}
 use Rattle.tas_language.specs.declared.change.Change.{Change}
-use Rattle.tas_search.specs.declared.expression.Expression.{Expression}
 use Rattle.tas_search.specs.declared.goal.GoalKind.{GoalKind}
 use Rattle.tas_search.specs.declared.goal.GoalKind.TheVariants.{Reach, Most, Least}
 use Rattle.tas_search.specs.declared.movie_search.SearchRange.{SearchRange}
 use Rattle.tas_search.specs.Outcome.{Outcome, best, nothing, stopped}
 use Rattle.tas_search.specs.Space.{SpaceContent}
 use Rattle.tas_search.specs.GoalAnswer.{IsGoalAnswer}
+use Rattle.tas_search.specs.Grammar.{Tree}
 use Rattle.tas_search.specs.MovieSearch.{IsMovieAnswer}
 use Rattle.tas_search.specs.SearchText.{AreGiven, Divides}
 use Rattle.tas_search.specs.Inside.Stops.{HasFrames}
@@ -46,12 +46,12 @@ frames_fit k count hold from le h = let less : k * hold ≤ count * hold = mul-l
     le_self : (n : ℕ) → n ≤ n
     le_self n = omega arith
 
-goal_frames : (s : SpaceContent) (kind : GoalKind) (e : Expression) (count states hold from : ℕ) (outcome : Outcome) → from + count * hold ≤ most_inputs → IsGoalAnswer s kind e count states outcome → HasFrames hold outcome
+goal_frames : (s : SpaceContent) (kind : GoalKind) (e : Tree) (count states hold from : ℕ) (outcome : Outcome) → from + count * hold ≤ most_inputs → IsGoalAnswer s kind e count states outcome → HasFrames hold outcome
 goal_frames s kind e count states hold from (best ks) le h = tt
 goal_frames s kind e count states hold from nothing le h = tt
 goal_frames s Reach e count states hold from (stopped k) le h = (h.2, frames_fit k count hold from h.3 le)
 goal_frames s Most e count states hold from (stopped k) le h = (h.1, frames_fit k count hold from h.2 le)
 goal_frames s Least e count states hold from (stopped k) le h = (h.1, frames_fit k count hold from h.2 le)
 
-pub stop_frames : (movie : MovieContent) (choices : List Input) (kind : GoalKind) (e : Expression) (range : SearchRange) (outcome : Outcome) (changes : List Change) → IsMovieAnswer movie choices kind e range outcome changes → HasFrames range.hold outcome
+pub stop_frames : (movie : MovieContent) (choices : List Input) (kind : GoalKind) (e : Tree) (range : SearchRange) (outcome : Outcome) (changes : List Change) → IsMovieAnswer movie choices kind e range outcome changes → HasFrames range.hold outcome
 stop_frames movie choices kind e range outcome changes h = goal_frames _ kind e range.count range.states range.hold range.from outcome h.0.3 h.1

@@ -1,6 +1,5 @@
 -- The answer to a search for a goal.
 use Rattle.std.specs.Prelude.{ℕ}
-use Rattle.tas_search.specs.declared.expression.Expression.{Expression}
 use Rattle.tas_search.specs.declared.extremes.Aim.TheVariants as aim
 use Rattle.tas_search.specs.declared.goal.GoalKind.{GoalKind}
 use Rattle.tas_search.specs.declared.goal.GoalKind.TheVariants.{Reach, Most, Least}
@@ -8,12 +7,13 @@ use Rattle.tas_search.specs.Outcome.{Outcome}
 use Rattle.tas_search.specs.Space.{SpaceContent}
 use Rattle.tas_search.specs.Expression.{value_of}
 use Rattle.tas_search.specs.Goal.{value_in, holds_of}
+use Rattle.tas_search.specs.Grammar.{Tree}
 use Rattle.tas_search.specs.Best.{IsReachAnswer}
 use Rattle.tas_search.specs.Extreme.{IsExtremeAnswer}
 
 -- the shortest sequence of at most `count` choices that reaches a machine of whose RAM the expression doesn't make 0; or that of `count`
 -- choices whose machine's RAM it makes the greatest number of, or the least one
-abbrev pub IsGoalAnswer : SpaceContent → GoalKind → Expression → ℕ → ℕ → Outcome → Type 0
+abbrev pub IsGoalAnswer : SpaceContent → GoalKind → Tree → ℕ → ℕ → Outcome → Type 0
 IsGoalAnswer s Reach e count states outcome = IsReachAnswer s (holds_of (value_of e)) count states outcome
 IsGoalAnswer s Most e count states outcome = IsExtremeAnswer s aim.Most (value_in (value_of e)) count states outcome
 IsGoalAnswer s Least e count states outcome = IsExtremeAnswer s aim.Least (value_in (value_of e)) count states outcome

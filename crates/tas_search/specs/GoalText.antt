@@ -1,13 +1,12 @@
 -- Texts of goals, and why a text is none.
 use Rattle.std.specs.Prelude.{◌≡◌, ℕ, ◌+◌, ◌^◌, ◌≤◌, List, ◌∷◌, ◌++◌, length, codes}
-use Rattle.tas_search.specs.declared.expression.Expression.{Expression}
 use Rattle.tas_search.specs.declared.goal.GoalKind.{GoalKind}
 use Rattle.tas_search.specs.declared.goal.GoalKind.TheVariants.{Reach, Most, Least}
 use Rattle.tas_search.specs.declared.goal.GoalFault.{GoalFault}
 use Rattle.tas_search.specs.declared.goal.GoalFault.TheVariants.{Memory, Kind, Word, Great}
 use Rattle.tas_search.specs.declared.word.Wanted.{Wanted}
 use Rattle.tas_search.specs.Expression.{weight}
-use Rattle.tas_search.specs.Grammar.{Tree, tree_of, Spells, IsFault}
+use Rattle.tas_search.specs.Grammar.{Tree, Spells, IsFault}
 use Rattle.tas_search.specs.Words.{Names, words_in}
 
 -- the first word
@@ -34,4 +33,4 @@ abbrev pub IsGoalFault : Names → List ℕ → GoalFault → Type 0
 IsGoalFault names text Memory = Unit {0}
 IsGoalFault names text Kind = (kind : GoalKind) (said : List ℕ) → text ≡ kind_word kind ++ 32 ∷ said → ⊥
 IsGoalFault names text (Word at wanted) = IsWordFault names text at wanted
-IsGoalFault names text Great = (kind : GoalKind) × (e : Expression) × IsGoalText names text kind (tree_of e) × (2 ^ 63 ≤ weight e)
+IsGoalFault names text Great = (kind : GoalKind) × (t : Tree) × IsGoalText names text kind t × (2 ^ 63 ≤ weight t)

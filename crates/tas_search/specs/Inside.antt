@@ -4,6 +4,7 @@ pub mod Arrivals
 pub mod Counts
 pub mod Extremes
 pub mod Operands
+pub mod TreeCode
 pub mod Lines
 pub mod FoundChanges
 pub mod Digits

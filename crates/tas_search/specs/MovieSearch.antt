@@ -4,13 +4,13 @@ use Rattle.vcs_inputs.specs.declared.input.Input.{Input}
 use Rattle.vcs_machine.specs.Machine.{after}
 use Rattle.tas_movie.specs.Content.{MovieContent, most_inputs}
 use Rattle.tas_language.specs.declared.change.Change.{Change}
-use Rattle.tas_search.specs.declared.expression.Expression.{Expression}
 use Rattle.tas_search.specs.declared.goal.GoalKind.{GoalKind}
 use Rattle.tas_search.specs.declared.movie_search.SearchRange.{SearchRange}
 use Rattle.tas_search.specs.declared.movie_search.SearchFault.{SearchFault}
 use Rattle.tas_search.specs.declared.movie_search.SearchFault.TheVariants.{Short, Hold, Part, Long, Report, Memory}
 use Rattle.tas_search.specs.declared.logs.Unfinished.{Unfinished}
 use Rattle.tas_search.specs.declared.logs.Unfinished.TheVariants as end
+use Rattle.tas_search.specs.Grammar.{Tree}
 use Rattle.tas_search.specs.Outcome.{Outcome, best, nothing, stopped}
 use Rattle.tas_search.specs.Space.{SpaceContent}
 use Rattle.tas_search.specs.Parts.{IsPart, part_end}
@@ -43,7 +43,7 @@ CanSearch movie range =
     (range.from ≤ length movie.inputs) × (0 < range.hold) × IsPart range.part.number range.part.of × (range.from + range.count * range.hold ≤ most_inputs)
 
 -- the answer: what the definitions say of the whole space, and the changes that write it into the movie
-abbrev pub IsMovieAnswer : MovieContent → List Input → GoalKind → Expression → SearchRange → Outcome → List Change → Type 0
+abbrev pub IsMovieAnswer : MovieContent → List Input → GoalKind → Tree → SearchRange → Outcome → List Change → Type 0
 IsMovieAnswer movie choices kind e range outcome changes =
     CanSearch movie range × IsGoalAnswer (space_of movie choices range) kind e range.count range.states outcome × WritesFound movie range (space_of movie choices range) outcome changes
 

@@ -8,7 +8,6 @@ use Rattle.tas_engines.specs.Movies.{IsMovieOf, IsMovieFault}
 use Rattle.tas_engines.specs.Scripts.{change_line}
 use Rattle.tas_search.specs.declared.choices.ChoicesError.{ChoicesError}
 use Rattle.tas_search.specs.declared.choices.ChoicesError.TheVariants as error
-use Rattle.tas_search.specs.declared.expression.Expression.{Expression}
 use Rattle.tas_search.specs.declared.goal.GoalKind.{GoalKind}
 use Rattle.tas_search.specs.declared.movie_search.SearchRange.{SearchRange}
 use Rattle.tas_search.specs.declared.search_error.SearchError.{SearchError}
@@ -20,7 +19,7 @@ use Rattle.tas_search.specs.ChoicesFile.{AreChoicesOf, IsChoicesError}
 use Rattle.tas_search.specs.StickChoices.{stick_choices}
 use Rattle.tas_search.specs.NamesFile.{AreNames, IsNamesError}
 use Rattle.tas_search.specs.Words.{Names}
-use Rattle.tas_search.specs.Grammar.{tree_of}
+use Rattle.tas_search.specs.Grammar.{Tree}
 use Rattle.tas_search.specs.GoalText.{IsGoalText, IsGoalFault}
 use Rattle.tas_search.specs.Outcome.{Outcome}
 use Rattle.tas_search.specs.MovieSearch.{IsMovieAnswer, IsSearchFault, StopsSearching, space_of}
@@ -69,10 +68,10 @@ pub record SearchInputs : Type 0 where
   pub part : SpacePart
 
 -- the text is that of a goal over the names
-pub record IsGoalOver (names goal : List ℕ) (kind : GoalKind) (e : Expression) : Type 0 where
+pub record IsGoalOver (names goal : List ℕ) (kind : GoalKind) (e : Tree) : Type 0 where
   pub known : Names
   pub names_are : AreNames names known
-  pub goal_is : IsGoalText known goal kind (tree_of e)
+  pub goal_is : IsGoalText known goal kind e
 
 -- why there is no goal: the names file's fault comes first
 abbrev pub IsGoalError : List ℕ → List ℕ → SearchError → Type 0
@@ -81,14 +80,14 @@ IsGoalError names goal (Goal fault) = (known : Names) × AreNames names known ×
 IsGoalError names goal _ = ⊥
 
 -- what the inputs say: a movie, choices, a goal over the names, and a range
-pub record Said (i : SearchInputs) (movie : MovieContent) (inputs : List Input) (kind : GoalKind) (e : Expression) (range : SearchRange) : Type 0 where
+pub record Said (i : SearchInputs) (movie : MovieContent) (inputs : List Input) (kind : GoalKind) (e : Tree) (range : SearchRange) : Type 0 where
   pub movie_is : IsMovieOf i.image i.movie movie
   pub choices_are : AreGiven i.has_choices i.choices inputs
   pub goal_is : IsGoalOver i.names i.goal kind e
   pub range_is : IsRangeOf i.from i.frames i.hold i.states i.part range
 
 -- the script and the verdict of what the definitions say of the whole part, and the lines of its layers
-pub record IsFoundText (movie : MovieContent) (inputs : List Input) (kind : GoalKind) (e : Expression) (range : SearchRange) (script verdict : List ℕ) (old new : LogBytes) : Type 0 where
+pub record IsFoundText (movie : MovieContent) (inputs : List Input) (kind : GoalKind) (e : Tree) (range : SearchRange) (script verdict : List ℕ) (old new : LogBytes) : Type 0 where
   pub outcome : Outcome
   pub changes : List Change
   pub answer : IsMovieAnswer movie inputs kind e range outcome changes
@@ -107,7 +106,7 @@ pub record IsSearchText (i : SearchInputs) (script verdict : List ℕ) (old new 
   pub movie : MovieContent
   pub inputs : List Input
   pub kind : GoalKind
-  pub e : Expression
+  pub e : Tree
   pub range : SearchRange
   pub said : Said i movie inputs kind e range
   pub found : IsFoundText movie inputs kind e range script verdict old new
@@ -121,9 +120,9 @@ IsSearchError i (Choices e) = (movie : MovieContent) × IsMovieOf i.image i.movi
 IsSearchError i (NamesAt e) = (movie : MovieContent) × (inputs : List Input) × IsMovieOf i.image i.movie movie × AreGiven i.has_choices i.choices inputs × IsGoalError i.names i.goal (NamesAt e)
 IsSearchError i (Goal fault) = (movie : MovieContent) × (inputs : List Input) × IsMovieOf i.image i.movie movie × AreGiven i.has_choices i.choices inputs × IsGoalError i.names i.goal (Goal fault)
 IsSearchError i Frames =
-    (movie : MovieContent) × (inputs : List Input) × (kind : GoalKind) × (e : Expression) × IsMovieOf i.image i.movie movie × AreGiven i.has_choices i.choices inputs × IsGoalOver i.names i.goal kind e × (Divides i.hold i.frames → ⊥)
-IsSearchError i (NotSearched fault) = (movie : MovieContent) × (inputs : List Input) × (kind : GoalKind) × (e : Expression) × (range : SearchRange) × Said i movie inputs kind e range × IsSearchFault movie range fault
-IsSearchError i Memory = (movie : MovieContent) × (inputs : List Input) × (kind : GoalKind) × (e : Expression) × (range : SearchRange) × Said i movie inputs kind e range
+    (movie : MovieContent) × (inputs : List Input) × (kind : GoalKind) × (e : Tree) × IsMovieOf i.image i.movie movie × AreGiven i.has_choices i.choices inputs × IsGoalOver i.names i.goal kind e × (Divides i.hold i.frames → ⊥)
+IsSearchError i (NotSearched fault) = (movie : MovieContent) × (inputs : List Input) × (kind : GoalKind) × (e : Tree) × (range : SearchRange) × Said i movie inputs kind e range × IsSearchFault movie range fault
+IsSearchError i Memory = (movie : MovieContent) × (inputs : List Input) × (kind : GoalKind) × (e : Tree) × (range : SearchRange) × Said i movie inputs kind e range
 
 -- what is in the report without an answer, of a space: what its search left; the lines of its layers, where there was no memory for the answer's texts
 abbrev pub IsCutReport : SpaceContent → SearchRange → SearchError → (old new : LogBytes) → Type 0
@@ -136,7 +135,7 @@ pub record StopsSaid (i : SearchInputs) (error : SearchError) (old new : LogByte
   pub movie : MovieContent
   pub inputs : List Input
   pub kind : GoalKind
-  pub e : Expression
+  pub e : Tree
   pub range : SearchRange
   pub said : Said i movie inputs kind e range
   pub cut : IsCutReport (space_of movie inputs range) range error old new

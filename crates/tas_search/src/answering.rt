@@ -27,7 +27,7 @@ use crate::names::read_names;
 use crate::search_error::SearchError;
 use crate::search_request::{Search, range_of};
 use crate::verdict::verdict;
-use std::alloc::Global;
+use std::alloc::{Allocator, Global};
 use std::io::Write;
 use std::thread::Threads;
 use std::time::Clock;
@@ -50,15 +50,19 @@ pub struct SearchBytes<'a> {
 
 /// What a search answers.
 #[derive(Drop)]
-pub struct SearchText {
+pub struct SearchText<A: Allocator = Global> {
     /// The script for `tas edit` that writes the best sequence into the movie; nothing where there is no such sequence.
-    pub script: Vec<u8>,
+    pub script: Vec<u8, A>,
     /// The verdict, a line.
-    pub verdict: Vec<u8>,
+    pub verdict: Vec<u8, A>,
 }
 
 /// The choices: those of the text, if it is given, and else the left stick's.
-fn choices_of(alloc: Global, given: bool, text: &[u8]) -> Result<Vec<Input>, ChoicesError>
+fn choices_of<A: Allocator>(
+    alloc: A,
+    given: bool,
+    text: &[u8],
+) -> Result<Vec<Input, A>, ChoicesError>
     ensures read { IfOk result (λ choices. AreGiven given text.now choices.items) }
     ensures fault { IfErr result (IsGivenError given text.now) }
 {
@@ -74,7 +78,7 @@ fn choices_of(alloc: Global, given: bool, text: &[u8]) -> Result<Vec<Input>, Cho
 }
 
 /// The goal over the names of a names file.
-fn goal_of(alloc: Global, names: &[u8], goal: &[u8]) -> Result<Goal, SearchError>
+fn goal_of<A: Allocator + Copy>(alloc: A, names: &[u8], goal: &[u8]) -> Result<Goal<A>, SearchError>
     ensures read { IfOk result (λ r. IsGoalOver names.now goal.now r.kind r.formula) }
     ensures fault { IfErr result (IsGoalError names.now goal.now) }
 {
@@ -88,16 +92,16 @@ fn goal_of(alloc: Global, names: &[u8], goal: &[u8]) -> Result<Goal, SearchError
 }
 
 /// The script and the verdict of a search of a movie.
-fn found_text<R: Threads + Clock + Sync, E: Write, P: Write>(
+fn found_text<R: Threads + Clock + Sync, A: Allocator + Copy + Send + Sync, E: Write, P: Write>(
     rt: &R,
-    alloc: Global,
-    movie: &Movie,
+    alloc: A,
+    movie: &Movie<A>,
     choices: &[Input],
-    goal: &Goal,
+    goal: &Goal<A>,
     range: SearchRange,
     errors: &mut E,
     report: &mut P,
-) -> Result<SearchText, SearchError>
+) -> Result<SearchText<A>, SearchError>
     requires { 0 < length choices.now }
     ensures text { IfOk result (λ text. IsFoundText movie.now choices.now goal.now.kind
         goal.now.formula range text.script.items text.verdict.items (log_bytes (E.contents errors.old) (P.contents report.old))
@@ -122,14 +126,19 @@ fn found_text<R: Threads + Clock + Sync, E: Write, P: Write>(
 ///
 /// Faults, in order: those of [`movie_of`], `Choices`, `Names`, `Goal`, `Frames`, and then those of [`search_movie`]. Each may be that memory
 /// was refused, once the cartridge has the size of one.
-pub fn search_text<R: Threads + Clock + Sync, E: Write, P: Write>(
+pub fn search_text<
+    R: Threads + Clock + Sync,
+    A: Allocator + Copy + Send + Sync,
+    E: Write,
+    P: Write,
+>(
     rt: &R,
-    alloc: Global,
+    alloc: A,
     search: &Search<'_>,
     bytes: &SearchBytes<'_>,
     errors: &mut E,
     report: &mut P,
-) -> Result<SearchText, SearchError>
+) -> Result<SearchText<A>, SearchError>
     // A search is a function of its inputs' bytes: two answers that meet this clause have the same script and verdict, and
     // reports that differ in the rates of their lines alone (`one_answer_per_search`), whatever the number of workers, which
     // is no input. After `best of all` the script writes a sequence of the space into the movie that meets the goal, and of

@@ -69,17 +69,23 @@ impl Eq for Arrival {
 }
 
 impl Hash for Arrival {
-    ghost use Rattle.std.specs.Hash as fed;
+    ghost use Rattle.std.specs.Prelude.{[], ◌∷◌};
     ghost use Rattle.std.proofs.Common.{ap};
     ghost use Rattle.vcs_machine.specs.Equality.{machines_decide};
+    ghost use Rattle.vcs_tia.specs.Tia.{places_of};
 
-    ghost hash_input = { λ a. fed.slice fed.u8 a.state.riot.ram };
+    ghost hash_input = { λ a. a.state.riot.ram ∷ places_of a.state.tia ∷ [] };
 
-    ghost respects_eq = { λ a b same. ap (λ m. fed.slice fed.u8 m.riot.ram) ((machines_decide a.state b.state).0 same) };
+    ghost respects_eq = { λ a b same. ap
+        (λ m. m.riot.ram ∷ places_of m.tia ∷ [])
+        ((machines_decide a.state b.state).0 same) };
 
-    /// The hash of RAM: states that differ elsewhere alone are told apart by `==`.
+    /// The hash of RAM and of the places of the TIA's objects, since a program may keep a place in the TIA alone. States that
+    /// differ only elsewhere are told apart by `==`.
+    // Equal states have one hash, that of these bytes.
+    // Refused: places_are_not_hashed.
     fn hash<H: Hasher>(&self, state: &mut H) {
-        let ram = self.state.ram();
-        ram.as_slice().hash(state);
+        state.write(&self.state.ram());
+        state.write(&self.state.places());
     }
 }

@@ -8,6 +8,9 @@ ghost use Rattle.std.specs.Prelude.{◌≡◌, ◌^◌, ◌<◌, ◌≤◌, unsi
 ghost use mir.Syntax.{w64};
 ghost use Rattle.tas_search.specs.Expression.{applied, bcd, byte_at, joined_weight, truth, value_of, weight};
 ghost use Rattle.tas_search.specs.Goal.{is_true};
+ghost use Rattle.tas_search.specs.Grammar.{tree_of};
+
+use std::alloc::{Allocator, Global};
 
 /// An operator of two numbers. A comparison is 1 where it is true, and else 0, and so are `Or` and `And`, which take
 /// every number but 0 as true.
@@ -41,7 +44,7 @@ pub enum Operator {
 /// Nothing limits its depth, and [`value`](Expression::value), [`weight`](Expression::weight) and its drop recurse: a
 /// caller that builds one from text must limit it.
 #[derive(Drop)]
-pub enum Expression {
+pub enum Expression<A: Allocator = Global> {
     /// A number.
     Number(u32),
     /// The byte at an address.
@@ -51,9 +54,9 @@ pub enum Expression {
     /// The byte at an address, and 256 times the one at the next address. The next one of FF is 80.
     Pair(u8),
     /// 1 where a number is 0, and else 0.
-    Not(Box<Expression>),
+    Not(Box<Expression<A>, A>),
     /// An operator and its two operands, the left one first.
-    Both(Operator, Box<Expression>, Box<Expression>),
+    Both(Operator, Box<Expression<A>, A>, Box<Expression<A>, A>),
 }
 
 /// The byte at an address.
@@ -120,21 +123,21 @@ fn joined_weight(operator: Operator, a: u64, b: u64) -> Option<u64>
     }
 }
 
-impl Expression {
+impl<A: Allocator> Expression<A> {
     /// Called for its law: every expression has a weight of 1 or more.
     fn weigh_something(&self)
-        ensures { 1 ≤ weight self.now }
+        ensures { 1 ≤ weight (tree_of self.now) }
     {}
 
     /// The number that the expression makes of RAM. Its weight must be below 2 to the power of 63, so that nothing
     /// overflows; a [`Formula`](crate::Formula) has such a weight.
     pub fn value(&self, ram: &[u8; 128]) -> i64
-        requires { weight self.now < 2 ^ 63 }
+        requires { weight (tree_of self.now) < 2 ^ 63 }
         // What an expression makes of RAM is its meaning, a whole number without a limit, where its weight is below 2
         // to the power of 63. A formula is an expression of such a weight, and there is none of any other.
         // Refused: bcd_has_sixteen_to_a_digit, at_most_is_less, pair_has_its_high_byte_first.
-        ensures value { result ≡ value_of self.now ram.now }
-        ensures below { unsigned_abs result < weight self.now }
+        ensures value { result ≡ value_of (tree_of self.now) ram.now }
+        ensures below { unsigned_abs result < weight (tree_of self.now) }
     {
         match self {
             Expression::Number(n) => i64::from(*n),
@@ -159,8 +162,8 @@ impl Expression {
     pub fn weight(&self) -> Option<u64>
         // The weight of an expression is the definition's, or at least 2 to the power of 63 where there is none.
         // Refused: weight_of_a_product_is_a_sum.
-        ensures { MatchOption result (2 ^ 63 ≤ weight self.now)
-            (λ n. (n ≡ weight self.now) × (n < 2 ^ 63)) }
+        ensures { MatchOption result (2 ^ 63 ≤ weight (tree_of self.now))
+            (λ n. (n ≡ weight (tree_of self.now)) × (n < 2 ^ 63)) }
     {
         match self {
             Expression::Number(n) => Some(u64::from(*n) + 1),

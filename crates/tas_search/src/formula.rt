@@ -2,38 +2,43 @@
 
 ghost use Rattle.std.specs.Prelude.{◌≡◌, ◌^◌, ◌<◌, ◌≤◌, MatchOption};
 ghost use Rattle.tas_search.specs.Expression.{weight};
+ghost use Rattle.tas_search.specs.Grammar.{tree_of};
 
 use crate::expression::Expression;
 use crate::measure::Measure;
+use std::alloc::{Allocator, Global};
 use std::marker::Model;
 
 /// An expression whose weight is below 2 to the power of 63. So neither its number nor that of any part of it
 /// overflows an `i64`, whatever is in RAM.
 #[derive(Drop)]
-pub struct Formula {
-    expression: Expression,
-    ghost fits: { weight expression < 2 ^ 63 },
+pub struct Formula<A: Allocator = Global> {
+    expression: Expression<A>,
+    ghost fits: { weight (tree_of expression) < 2 ^ 63 },
 }
 
-impl Model for Formula {
-    ghost use Rattle.tas_search.specs.declared.expression.Expression.{Expression};
-    ghost use Rattle.tas_search.specs.contracts.expression.Expression as e;
-    ghost use Rattle.std.specs.Coded.{codes};
+// Contracts see a formula as the tree of its expression: where its memory is makes no difference.
+impl<A: Allocator> Model for Formula<A> {
+    ghost use Rattle.std.specs.Prelude.{List};
+    ghost use Rattle.std.specs.Coded.{code_by, codes};
+    ghost use Rattle.tas_search.specs.declared.word.Word.{Word};
+    ghost use Rattle.tas_search.specs.Grammar.{Tree, tree_of};
+    ghost use Rattle.tas_search.specs.Inside.TreeCode.{stored, made, made_again};
 
-    ghost Value = { Expression };
+    ghost Value = { Tree };
 
-    ghost coded = { Prim.hlevel (codes, e.the_row.coded) };
+    ghost coded = { code_by (List Word) (Prim.hlevel codes) stored made made_again };
 
-    ghost view = { λ f. f.expression };
+    ghost view = { λ f. tree_of f.expression };
 }
 
-impl Formula {
+impl<A: Allocator> Formula<A> {
     /// The expression as a formula; `None` where its weight, an upper bound of all its values, is 2 to the power of 63
     /// or more. See [`Expression::weight`].
-    pub fn new(expression: Expression) -> Option<Self>
+    pub fn new(expression: Expression<A>) -> Option<Self>
         // Refused: formula_of_a_number_is_refused.
-        ensures { MatchOption result (2 ^ 63 ≤ weight expression)
-            (λ formula. formula ≡ expression) }
+        ensures { MatchOption result (2 ^ 63 ≤ weight (tree_of expression))
+            (λ formula. formula ≡ tree_of expression) }
     {
         if expression.weight().is_some() {
             Some(Formula { expression })
@@ -43,7 +48,7 @@ impl Formula {
     }
 }
 
-impl Measure for Formula {
+impl<A: Allocator> Measure for Formula<A> {
     ghost use Rattle.tas_search.specs.Expression.{value_of};
 
     ghost value = { λ f ram. value_of f ram };

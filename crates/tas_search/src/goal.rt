@@ -10,7 +10,6 @@
 //! (`bcd:82`), since `82` is the number 82 elsewhere. A parenthesis is a word, too, as in `find` and `test`.
 
 ghost use Rattle.std.specs.Prelude.{◌≡◌, ◌∷◌, ◌++◌, List, ℕ, IfOk, IfErr, IfSome, IfNone};
-ghost use Rattle.tas_search.specs.Grammar.{tree_of};
 ghost use Rattle.tas_search.specs.Words.{names_of};
 ghost use Rattle.tas_search.specs.GoalText.{IsGoalText, IsGoalFault, kind_word};
 ghost use Rattle.tas_search.specs.declared.goal.GoalKind.{GoalKind as Kind};
@@ -38,11 +37,11 @@ pub enum GoalKind {
 
 /// A goal: what is asked for, and of which expression.
 #[derive(Drop)]
-pub struct Goal {
+pub struct Goal<A: Allocator = Global> {
     /// What is asked for.
     pub kind: GoalKind,
     /// The expression.
-    pub formula: Formula,
+    pub formula: Formula<A>,
 }
 
 /// Why a text is no goal.
@@ -95,11 +94,11 @@ fn split_kind(text: &[u8]) -> Option<(GoalKind, &[u8])>
 }
 
 /// Reads the text of a goal, with these names.
-pub fn read_goal<A: Allocator>(
-    alloc: Global,
-    names: &[Name<A>],
+pub fn read_goal<A: Allocator + Copy, N: Allocator>(
+    alloc: A,
+    names: &[Name<N>],
     text: &[u8],
-) -> Result<Goal, GoalFault>
+) -> Result<Goal<A>, GoalFault>
     // What is read as a goal is a goal's text, and the goal is what it says. A text is reported by `Kind` where it
     // begins with no goal's word, by the word at fault where no expression follows, and by `Great` where it is that of
     // an expression whose weight is at the limit or above. `Memory` says nothing of the text.
@@ -108,7 +107,7 @@ pub fn read_goal<A: Allocator>(
     // goal_fault_names_the_word_before, goal_fault_always_expects_the_end, most_asks_for_the_least,
     // great_goal_is_reported_as_its_kind.
     ensures read { IfOk result
-        (λ goal. IsGoalText (names_of names.now) text.now goal.kind (tree_of goal.formula)) }
+        (λ goal. IsGoalText (names_of names.now) text.now goal.kind goal.formula) }
     ensures fault { IfErr result (IsGoalFault (names_of names.now) text.now) }
 {
     let Some((kind, said)) = split_kind(text) else {

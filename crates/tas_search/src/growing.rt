@@ -1,9 +1,9 @@
 //! The next layer.
 //!
-//! A layer is an `IndexSet` of states in the order in which they were found, compared by `==` and hashed by their RAM. A state
-//! takes 200 bytes there (`PackedState`), and 16 more for the last step to it. Its states are found in the order of the
-//! first sequences to them, since those of the layer before are: so the first state that meets the goal has the first
-//! sequence. The proofs see layers as lists (`specs/Inside/Layers.antt`); the definitions of the answers don't name them.
+//! A layer is an `IndexSet` of states in the order in which they were found, compared by `==` (`Arrival`). A state takes 200
+//! bytes there (`PackedState`), and 16 more for the last step to it. Its states are found in the order of the first
+//! sequences to them, since those of the layer before are: so the first state that meets the goal has the first sequence.
+//! The proofs see layers as lists (`specs/Inside/Layers.antt`); the definitions of the answers don't name them.
 //!
 //! Workers play stretches of the layer before, each worker one at a time, and put what they reach into sets of their own; one
 //! thread puts these into the next layer, in order, so that the layer is the same whatever the workers. Some thousand choices

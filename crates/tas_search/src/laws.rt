@@ -9,11 +9,9 @@ ghost use Rattle.tas_search.specs.Outcome.{Outcome, nothing};
 ghost use Rattle.tas_search.specs.Parts.{HaveExtremes, HaveShortest, IsBestPart, IsPart, IsShortestPart, least_count, part_of, sequence_count, whole};
 ghost use Rattle.tas_search.specs.LayerLines.{sequences};
 ghost use Rattle.tas_search.specs.declared.extremes.Aim.{Aim};
-ghost use Rattle.tas_search.specs.declared.expression.Expression.{Expression};
 ghost use Rattle.tas_search.specs.declared.goal.GoalKind.{GoalKind};
-ghost use Rattle.tas_search.specs.Expression.{value_of};
 ghost use Rattle.tas_search.specs.GoalText.{IsGoalText};
-ghost use Rattle.tas_search.specs.Grammar.{Tree, tree_of};
+ghost use Rattle.tas_search.specs.Grammar.{Tree};
 ghost use Rattle.tas_search.specs.Logs.{LogBytes};
 ghost use Rattle.tas_search.specs.Reported.{DifferInTimes};
 ghost use Rattle.tas_search.specs.SearchText.{SearchInputs, IsSearchText};
@@ -33,13 +31,6 @@ pub fn one_goal_per_text()
     // Refused: none, they are laws of the definitions and have no code.
     ensures { (names : Names) (text : List ℕ) (j k : GoalKind) (a b : Tree)
         → IsGoalText names text j a → IsGoalText names text k b → (j ≡ k) × (a ≡ b) }
-{}
-
-/// What an expression makes of RAM depends on nothing but what it says.
-pub fn one_value_per_tree()
-    // Refused: none, they are laws of the definitions and have no code.
-    ensures { (a b : Expression) (ram : List ℕ)
-        → tree_of a ≡ tree_of b → value_of a ram ≡ value_of b ram }
 {}
 
 /// A search has one answer, whatever the number of workers.

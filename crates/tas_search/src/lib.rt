@@ -46,8 +46,8 @@ pub use goal::{Goal, GoalFault, GoalKind, read_goal};
 pub use goal_search::find_goal;
 pub use laws::{
     best_part_is_best, best_value_of_parts_is_best, first_difference_decides,
-    one_answer_per_search, one_goal_per_text, one_value_per_tree, sequences_are_counted,
-    sequences_are_listed, what_no_part_has_the_whole_lacks,
+    one_answer_per_search, one_goal_per_text, sequences_are_counted, sequences_are_listed,
+    what_no_part_has_the_whole_lacks,
 };
 pub use limits::{Limits, MAX_WORKERS};
 pub use logs::Unfinished;

@@ -122,6 +122,7 @@ fn found_changes<A: Allocator, C: Allocator>(
 pub fn search_movie<
     R: Threads + Clock + Sync,
     A: Allocator + Copy + Send + Sync,
+    G: Allocator,
     E: Write,
     P: Write,
 >(
@@ -129,7 +130,7 @@ pub fn search_movie<
     alloc: A,
     movie: &Movie<A>,
     choices: &[Input],
-    goal: &Goal,
+    goal: &Goal<G>,
     range: SearchRange,
     errors: &mut E,
     report: &mut P,

@@ -8,7 +8,7 @@ ghost use Rattle.tas_search.specs.Inside.Operands.{NoOperand, NoOperator, NoClos
 
 use crate::expression::{Expression, Operator};
 use crate::word::{Wanted, Word};
-use std::alloc::{AllocError, AllocFailed, Global};
+use std::alloc::{AllocError, AllocFailed, Allocator};
 
 /// How deep parentheses and `not` may stand in one another: an expression is read, evaluated and dropped by recursion.
 pub(crate) const MOST_DEPTH: usize = 64;
@@ -63,7 +63,7 @@ fn after_close(words: &[Word]) -> Option<&[Word]>
 }
 
 /// The negation of an expression.
-fn negate(alloc: Global, e: Expression) -> Result<Expression, AllocError>
+fn negate<A: Allocator>(alloc: A, e: Expression<A>) -> Result<Expression<A>, AllocError>
     ensures { IfOk result (λ r. tree_of r ≡ negated (tree_of e)) }
 {
     let boxed = Box::new(alloc, e)?;
@@ -71,12 +71,12 @@ fn negate(alloc: Global, e: Expression) -> Result<Expression, AllocError>
 }
 
 /// Two expressions, joined by an operator.
-fn join(
-    alloc: Global,
+fn join<A: Allocator + Copy>(
+    alloc: A,
     operator: Operator,
-    a: Expression,
-    b: Expression,
-) -> Result<Expression, AllocError>
+    a: Expression<A>,
+    b: Expression<A>,
+) -> Result<Expression<A>, AllocError>
     ensures { IfOk result (λ r. tree_of r ≡ joined operator (tree_of a) (tree_of b)) }
 {
     let left = Box::new(alloc, a)?;
@@ -85,7 +85,11 @@ fn join(
 }
 
 /// The operand with which the words begin, at most this many levels deep, and the words after it.
-fn operand(alloc: Global, words: &[Word], levels: usize) -> Result<(Expression, &[Word]), ReadFault>
+fn operand<A: Allocator + Copy>(
+    alloc: A,
+    words: &[Word],
+    levels: usize,
+) -> Result<(Expression<A>, &[Word]), ReadFault>
     ensures read { IfOk result (λ r. words.now ≡ words_of (tree_of r.0) ++ r.1.now) }
     ensures within { IfOk result (λ r. depth (tree_of r.0) ≤ levels) }
     ensures fault { IfErr result (IsReadFault (NoOperand levels words.now)) }
@@ -126,7 +130,10 @@ fn operand(alloc: Global, words: &[Word], levels: usize) -> Result<(Expression, 
 }
 
 /// Reads an expression from all of these words: an operand, or two with an operator between them.
-pub(crate) fn read_expression(alloc: Global, words: &[Word]) -> Result<Expression, ReadFault>
+pub(crate) fn read_expression<A: Allocator + Copy>(
+    alloc: A,
+    words: &[Word],
+) -> Result<Expression<A>, ReadFault>
     // Of words exactly those are read as an expression that the grammar has for one, and the expression is the one that
     // they say. Else the first word is reported with which no expression begins any more, or the end where the words
     // end too early, with what could stand there.

@@ -4,12 +4,12 @@ ghost use Rattle.std.specs.Prelude.{◌≡◌, map, IfOk, OnOk, IfErr};
 ghost use Rattle.tas_engines.specs.Commands.{bytes_of};
 ghost use Rattle.tas_engines.specs.Input.{IsReadOnto, AreReadWhole, StopsReading, StopsReadingAll};
 
-use std::alloc::Global;
+use std::alloc::Allocator;
 use std::io::Read;
 use tas_engines::{ReadFault, read_input};
 
 /// The bytes of the input at this place, counted from 0: none where there is no such input.
-pub(crate) fn bytes_of(inputs: &[Vec<u8>], place: usize) -> &[u8]
+pub(crate) fn bytes_of<A: Allocator>(inputs: &[Vec<u8, A>], place: usize) -> &[u8]
     ensures { result.now ≡ bytes_of (map (λ bytes. bytes.items) inputs.now) place }
 {
     if place < inputs.len() {
@@ -20,9 +20,9 @@ pub(crate) fn bytes_of(inputs: &[Vec<u8>], place: usize) -> &[u8]
 }
 
 /// Reads an input as [`read_input`] does, and puts its bytes after those of others.
-pub(crate) fn read_onto<R: Read>(
-    alloc: Global,
-    inputs: &mut Vec<Vec<u8>>,
+pub(crate) fn read_onto<A: Allocator + Copy, R: Read>(
+    alloc: A,
+    inputs: &mut Vec<Vec<u8, A>, A>,
     reader: &mut R,
 ) -> Result<(), ReadFault>
     ensures whole { OnOk result (IsReadOnto (R.remaining reader.old) (R.remaining reader.new)
@@ -38,7 +38,10 @@ pub(crate) fn read_onto<R: Read>(
 }
 
 /// Reads some inputs, one after the other, each as [`read_input`] does. Where reading one fails, those after it are left untouched.
-pub(crate) fn read_all<R: Read>(alloc: Global, readers: &mut [R]) -> Result<Vec<Vec<u8>>, ReadFault>
+pub(crate) fn read_all<A: Allocator + Copy, R: Read>(
+    alloc: A,
+    readers: &mut [R],
+) -> Result<Vec<Vec<u8, A>, A>, ReadFault>
     ensures whole { IfOk result (λ inputs. AreReadWhole (map R.remaining readers.old)
         (map R.remaining readers.new) (map (λ bytes. bytes.items) inputs.items)) }
     ensures fault { IfErr result

@@ -13,7 +13,7 @@ use crate::answering::{SearchBytes, SearchText, search_text};
 use crate::reading::{bytes_of, read_all, read_onto};
 use crate::search_error::SearchError;
 use crate::search_request::Search;
-use std::alloc::Global;
+use std::alloc::Allocator;
 use std::io::{Read, Write};
 use std::thread::Threads;
 use std::time::Clock;
@@ -35,14 +35,14 @@ fn movie_place(search: &Search<'_>) -> usize
 }
 
 /// The bytes of the input at a place, if it is given.
-fn given_bytes(inputs: &[Vec<u8>], given: bool, place: usize) -> &[u8]
+fn given_bytes<A: Allocator>(inputs: &[Vec<u8, A>], given: bool, place: usize) -> &[u8]
     ensures { result.now ≡ given_bytes (map (λ bytes. bytes.items) inputs.now) given place }
 {
     if given { bytes_of(inputs, place) } else { &[] }
 }
 
 /// The bytes that a search reads, of its inputs in order.
-fn search_bytes<'a>(search: &Search<'_>, inputs: &'a [Vec<u8>]) -> SearchBytes<'a>
+fn search_bytes<'a, A: Allocator>(search: &Search<'_>, inputs: &'a [Vec<u8, A>]) -> SearchBytes<'a>
     ensures { inputs_of search.now result
         ≡ read_inputs search.now (map (λ bytes. bytes.items) inputs.now) }
 {
@@ -59,15 +59,21 @@ fn search_bytes<'a>(search: &Search<'_>, inputs: &'a [Vec<u8>]) -> SearchBytes<'
 }
 
 /// Searches by these inputs, writes the script and returns the verdict.
-fn answer<R: Threads + Clock + Sync, W: Write, E: Write, P: Write>(
+fn answer<
+    R: Threads + Clock + Sync,
+    A: Allocator + Copy + Send + Sync,
+    W: Write,
+    E: Write,
+    P: Write,
+>(
     rt: &R,
-    alloc: Global,
+    alloc: A,
     search: &Search<'_>,
-    inputs: &[Vec<u8>],
+    inputs: &[Vec<u8, A>],
     output: &mut W,
     errors: &mut E,
     report: &mut P,
-) -> Result<Vec<u8>, SearchError>
+) -> Result<Vec<u8, A>, SearchError>
     ensures { Ends (λ verdict. verdict.items)
         (read_inputs search.now (map (λ bytes. bytes.items) inputs.now)) (W.contents output.old)
         (W.contents output.new) (log_bytes (E.contents errors.old) (P.contents report.old))
@@ -88,16 +94,24 @@ fn answer<R: Threads + Clock + Sync, W: Write, E: Write, P: Write>(
 ///
 /// Faults, in order: `Read` of the first input that isn't read whole, and those after it are left untouched; then those of
 /// [`search_text`](crate::search_text), and nothing is written but lines of layers; `Run` of a write of the script that failed.
-pub fn search_run<T: Threads + Clock + Sync, F: Read, R: Read, W: Write, E: Write, P: Write>(
+pub fn search_run<
+    T: Threads + Clock + Sync,
+    A: Allocator + Copy + Send + Sync,
+    F: Read,
+    R: Read,
+    W: Write,
+    E: Write,
+    P: Write,
+>(
     rt: &T,
-    alloc: Global,
+    alloc: A,
     search: &Search<'_>,
     files: &mut [F],
     input: &mut R,
     output: &mut W,
     errors: &mut E,
     report: &mut P,
-) -> Result<Vec<u8>, SearchError>
+) -> Result<Vec<u8, A>, SearchError>
     // A search reads its inputs whole, in order, writes the lines of its layers and then the script that `search_text` makes of their bytes, and
     // returns its verdict; or reports the fault with no script written. After a write of the script that failed its first bytes are out, as many
     // as it reports.

@@ -1,4 +1,4 @@
-//! Searches to which each growth of their memory is refused in turn: what is read of names and choices, layers, lists of workers, links,
+//! Searches to which each growth of their memory is refused in turn: what is read of names, choices and goals, layers, lists of workers, links,
 //! the answer and its changes, and the lines of the report.
 
 use crate::checks::{check_same, check_that, expect_ok};
@@ -11,8 +11,8 @@ use std::thread::Threads;
 use std::time::Clock;
 use tas_movie::Movie;
 use tas_search::{
-    ChoicesError, Found, NamesError, SearchFault, SearchRange, SpacePart, read_choices, read_goal,
-    read_names, search_movie,
+    ChoicesError, Found, GoalFault, NamesError, SearchFault, SearchRange, SpacePart, read_choices,
+    read_goal, read_names, search_movie,
 };
 use vcs_machine::Cart;
 
@@ -75,7 +75,13 @@ fn found<'h, R: Abort + Threads + Clock + Sync>(
             return None;
         }
     };
-    let goal = expect_ok(rt, read_goal(alloc, names.as_slice(), asked.goal));
+    let goal = match read_goal(heap, names.as_slice(), asked.goal) {
+        Ok(goal) => goal,
+        Err(fault) => {
+            check_that(rt, "goal", matches!(fault, GoalFault::Memory));
+            return None;
+        }
+    };
     let range = SearchRange {
         from: 0,
         count: 4,

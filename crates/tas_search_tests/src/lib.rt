@@ -24,6 +24,8 @@ mod report_tests;
 #[cfg(test)]
 mod requests;
 #[cfg(test)]
+mod run_growth_tests;
+#[cfg(test)]
 mod run_tests;
 #[cfg(test)]
 mod search_tests;

@@ -3,4 +3,4 @@ use Rattle.std.proofs.lemmas.Grind.{common_steps}
 use Rattle.tas_search.proofs.reading.bytes_of.Goals as goal
 
 pub returns-then-place-inputs : goal.returns-then-place-inputs
-returns-then-place-inputs c = grind (arith, common_steps)
+returns-then-place-inputs g c = grind (arith, common_steps)

@@ -1,5 +1,6 @@
+use Rattle.tas_search.specs.Grammar.{tree_of}
 use Rattle.tas_search.proofs.ExpressionLemmas.{weight_positive}
 use Rattle.tas_search.proofs.expression.Expression.weigh_something.Goals as goal
 
 pub returns : goal.returns
-returns c = weight_positive c.args.self.now
+returns g c = weight_positive (tree_of c.args.self.now)
