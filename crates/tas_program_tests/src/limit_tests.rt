@@ -2,8 +2,8 @@
 
 use crate::checks::{check_same, check_that, expect_ok};
 use crate::movies::{PICTURE, image_of, repeated};
-use crate::programs::{TwoFiles, only_game, run};
 use crate::tails::Tail;
+use crate::two_files::{TwoFiles, only_game, run};
 use std::alloc::Global;
 use std::process::Abort;
 use std::sync::Wait;

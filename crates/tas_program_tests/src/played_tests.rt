@@ -3,7 +3,8 @@
 use crate::movies::{
     HALTING, IDLE, PLAYFIELD, STORING, image_of, joined, playfield_picture, recording_of, repeated,
 };
-use crate::programs::{ONE_FRAME, TWO_FRAMES, TwoFiles, check_run, only_game};
+use crate::programs::{ONE_FRAME, TWO_FRAMES};
+use crate::two_files::{TwoFiles, check_run, only_game};
 
 /// A movie of the playfield's cartridge with two frames of nothing pressed.
 const TWO_IDLE_FRAMES: &[u8] =

@@ -1,7 +1,7 @@
 //! Cases of the whole program: words, files, input, and what it then writes.
 
 use crate::movies::{PLAYFIELD, image_of};
-use crate::programs::{TwoFiles, check_run};
+use crate::two_files::{TwoFiles, check_run};
 use std::alloc::Global;
 use std::process::Abort;
 use std::sync::Wait;

@@ -7,7 +7,8 @@ use crate::movies::{
 use crate::program_cases::{
     Case, Refused, Written, check_case, check_refused, check_refused_over_playfield, check_written,
 };
-use crate::programs::{ONE_FRAME, TWO_FRAMES, check_unread, only_game, run};
+use crate::programs::{ONE_FRAME, TWO_FRAMES};
+use crate::two_files::{check_unread, only_game, run};
 use std::alloc::Global;
 use std::io::ErrorKind;
 use std::process::Abort;

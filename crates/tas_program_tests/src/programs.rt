@@ -1,59 +1,15 @@
-//! The whole program over words, files and streams of the tests' own.
+//! What the tests of the whole program have in common: its words, a run over any folder, and some files. `tas_program_tests` and
+//! `program_file_tests` have this file, letter by letter: checks.rt says why.
 
-ghost use Rattle.std.specs.Prelude.{Some, if◌then◌else◌, codes};
-ghost use Rattle.std.specs.Prelude.{nat_eq};
-ghost use Rattle.std.specs.Cmp.Lexicographic.{pointwise};
-
-use crate::checks::{check_same, check_that, expect_ok};
+use crate::checks::expect_ok;
+use crate::movies::{IDLE, Program, Recording, recording_of};
 use std::alloc::Global;
-use std::env::Args;
-use std::io;
-use std::io::{Error, ErrorKind, Write};
+use std::io::Write;
 use std::process::Abort;
 use std::sync::Wait;
 use std::thread::Threads;
 use std::time::Clock;
-use tas_program::{Folder, OrdinaryFile, Permit, Streams, run_program};
-use test_streams::Taker;
-
-/// A folder with the files `game.bin` and `other`.
-#[derive(Clone, Copy)]
-pub struct TwoFiles<'a> {
-    pub game: &'a [u8],
-    pub other: &'a [u8],
-}
-
-impl<'a> Folder for TwoFiles<'a> {
-    type File = &'a [u8];
-
-    type Sink = Taker;
-
-    ghost bytes_of = { λ s name. Some
-        (if pointwise nat_eq name (codes "game.bin") then s.game.now else s.other.now) };
-
-    fn look(&self, _name: &str) -> Option<OrdinaryFile> {
-        None
-    }
-
-    fn open(&self, name: &str) -> io::Result<&'a [u8]> {
-        if name == "game.bin" {
-            Ok(self.game)
-        } else if name == "other" {
-            Ok(self.other)
-        } else {
-            Err(Error::from(ErrorKind::NotFound))
-        }
-    }
-
-    fn open_to_write(&self, _permit: Permit, _name: &str) -> io::Result<Taker> {
-        Err(Error::from(ErrorKind::NotFound))
-    }
-}
-
-/// The folder where `game.bin` is this cartridge, and `other` is empty.
-pub fn only_game(game: &[u8]) -> TwoFiles<'_> {
-    TwoFiles { game, other: b"" }
-}
+use tas_program::{Folder, Streams, run_program};
 
 /// The program's name, and these words.
 pub fn words_of<R: Abort>(rt: &R, alloc: Global, words: &[&str]) -> Vec<String> {
@@ -70,81 +26,23 @@ fn push_word<R: Abort>(rt: &R, alloc: Global, words: &mut Vec<String>, word: &st
     expect_ok(rt, words.push(word));
 }
 
-/// Runs the program with these words over this folder and input: its status. What it writes, and what it tells of faults, goes to
-/// these writers.
-pub fn run_words<T: Threads + Wait + Clock + Sync, W: Write, E: Write>(
+/// Runs the program with these words over this folder and input: its status. What it writes, and what it reports, goes to these writers.
+pub fn run_in<T: Threads + Wait + Clock + Abort + Sync, F: Folder + Sync, W: Write, E: Write>(
     rt: &T,
     alloc: Global,
-    words: io::Result<Args>,
-    folder: TwoFiles<'_>,
+    folder: &F,
     input: &[u8],
+    words: &[&str],
     output: &mut W,
     errors: &mut E,
 ) -> u8 {
+    let words = words_of(rt, alloc, words).into_iter();
     let mut streams = Streams {
         input,
         output,
         errors,
     };
-    run_program(rt, alloc, alloc, words, &folder, &mut streams).code()
-}
-
-/// The same with words that are text.
-pub fn run<T: Threads + Wait + Clock + Abort + Sync, W: Write, E: Write>(
-    rt: &T,
-    alloc: Global,
-    words: &[&str],
-    folder: TwoFiles<'_>,
-    input: &[u8],
-    output: &mut W,
-    errors: &mut E,
-) -> u8 {
-    let words = words_of(rt, alloc, words).into_iter();
-    run_words(rt, alloc, Ok(words), folder, input, output, errors)
-}
-
-/// A status, what the program writes, and what it tells of faults.
-pub type End<'a> = (u8, &'a [u8], &'a [u8]);
-
-/// Fails where a run with these words ended in another way.
-pub fn check_ran<R: Abort>(rt: &R, words: &[&str], found: End<'_>, wanted: End<'_>) {
-    let (code, output, line) = wanted;
-    check_same(rt, words, found.0, code);
-    check_same(rt, words, found.2, line);
-    check_that(rt, (words, line), found.1 == output);
-}
-
-/// Fails where the program, run with these words over this folder and input, ends in another way.
-pub fn check_run<T: Threads + Wait + Clock + Abort + Sync>(
-    rt: &T,
-    alloc: Global,
-    words: &[&str],
-    folder: TwoFiles<'_>,
-    input: &[u8],
-    end: End<'_>,
-) {
-    let mut output = Vec::new(alloc);
-    let mut errors = Vec::new(alloc);
-    let code = run(rt, alloc, words, folder, input, &mut output, &mut errors);
-    let found = (code, output.as_slice(), errors.as_slice());
-    check_ran(rt, words, found, end);
-}
-
-/// The same where the words can't be read.
-pub fn check_unread<T: Threads + Wait + Clock + Abort + Sync>(
-    rt: &T,
-    alloc: Global,
-    kind: ErrorKind,
-    folder: TwoFiles<'_>,
-    input: &[u8],
-    end: End<'_>,
-) {
-    let mut output = Vec::new(alloc);
-    let mut errors = Vec::new(alloc);
-    let words = Err(Error::from(kind));
-    let code = run_words(rt, alloc, words, folder, input, &mut output, &mut errors);
-    let found = (code, output.as_slice(), errors.as_slice());
-    check_ran(rt, &[], found, end);
+    run_program(rt, alloc, alloc, Ok(words), folder, &mut streams).code()
 }
 
 /// A movie of the playfield's cartridge, with one frame of nothing pressed. The digest comes from another program.
@@ -154,3 +52,38 @@ pub const ONE_FRAME: &[u8] =
 /// The same with a second one, where the left stick is pushed right.
 pub const TWO_FRAMES: &[u8] =
     b"a26movie 2\ncart 820c64e9933496de683a000c5e11f0510fb7b1699b2ce86471295236b284906d\n..... ..... .....\nR.... ..... .....\n";
+
+/// `000=18A9028500A9008500AD80020AB002E6800AB002C68085024C00F0 FFC=00F0`: each frame but the first counts the byte at 80 up if the left stick
+/// is to the right, and down if it is to the left.
+pub const COUNTING: Program = Program {
+    bytes: b"\x18\xa9\x02\x85\x00\xa9\x00\x85\x00\xad\x80\x02\x0a\xb0\x02\xe6\x80\x0a\xb0\x02\xc6\x80\x85\x02\x4c\x00\xf0",
+    digest: "953a48a0284b192294dc2804abb48a7da778e16bb0fa25219d2efab1b4cb7e02",
+};
+
+/// The cartridge, and a movie of five frames in which nothing is pressed.
+pub fn five_frames<R: Abort>(rt: &R, alloc: Global) -> Recording {
+    recording_of(rt, alloc, COUNTING, 5, IDLE)
+}
+
+/// A report without its rates, which no two runs have in common.
+pub fn timeless<R: Abort>(rt: &R, alloc: Global, report: &[u8]) -> Vec<u8> {
+    let mut kept = Vec::new(alloc);
+    for line in expect_ok(rt, str::from_utf8(report)).split_inclusive('\n') {
+        let (front, end) = match line.strip_suffix(" frames a second\n") {
+            Some(counts) => (counts.rsplit_once(", ").unwrap_or((line, "")).0, "\n"),
+            None => (line, ""),
+        };
+        expect_ok(rt, kept.extend_from_slice(front.as_bytes()));
+        expect_ok(rt, kept.extend_from_slice(end.as_bytes()));
+    }
+    kept
+}
+
+/// A journal that begins with the movie of one frame and has two edits, of seats 0 and 3: it has eight lines. The digests come from another
+/// program.
+pub const JOURNAL: &[u8] =
+    b"a26journal 1\nprofile 2\nmovie 99 a1ca090e446f626d5db5253eb1e9fbe96e54cc24cfad52f15d02d7a58a607432\na26movie 2\ncart 820c64e9933496de683a000c5e11f0510fb7b1699b2ce86471295236b284906d\n..... ..... .....\n0 0 insert 1 2 R.... ..... .....\n1 3 delete 0 2\n";
+
+/// The movie that both edits of this journal make.
+pub const AFTER_TWO: &[u8] =
+    b"a26movie 2\ncart 820c64e9933496de683a000c5e11f0510fb7b1699b2ce86471295236b284906d\nR.... ..... .....\n";

@@ -1,8 +1,9 @@
 //! `tas search`: the script on standard output, the verdict on standard error, and the fault of each input.
 
 use crate::checks::{check_same, check_that, expect_ok};
-use crate::movies::{IDLE, Program, Recording, recording_of};
-use crate::programs::{End, check_ran, words_of};
+use crate::movies::Recording;
+use crate::programs::{five_frames, run_in, timeless};
+use crate::two_files::{End, check_ran};
 use std::alloc::Global;
 use std::io;
 use std::io::{Error, ErrorKind, Write};
@@ -10,15 +11,8 @@ use std::process::Abort;
 use std::sync::Wait;
 use std::thread::Threads;
 use std::time::Clock;
-use tas_program::{Folder, OrdinaryFile, Permit, Streams, run_program};
+use tas_program::{Folder, OrdinaryFile, Permit};
 use test_streams::{Failure, Giver, Room, Taker};
-
-/// `000=18A9028500A9008500AD80020AB002E6800AB002C68085024C00F0 FFC=00F0`: each frame but the first counts the byte at 80 up if the left stick
-/// is to the right, and down if it is to the left.
-pub const COUNTING: Program = Program {
-    bytes: b"\x18\xa9\x02\x85\x00\xa9\x00\x85\x00\xad\x80\x02\x0a\xb0\x02\xe6\x80\x0a\xb0\x02\xc6\x80\x85\x02\x4c\x00\xf0",
-    digest: "953a48a0284b192294dc2804abb48a7da778e16bb0fa25219d2efab1b4cb7e02",
-};
 
 /// A folder with a cartridge, the choices nothing, right and left, and a names file that is right and one that is wrong.
 #[derive(Clone, Copy)]
@@ -51,31 +45,7 @@ impl<'a> Folder for Place<'a> {
     }
 }
 
-/// The cartridge, and a movie of five frames in which nothing is pressed.
-pub fn five_frames<R: Abort>(rt: &R, alloc: Global) -> Recording {
-    recording_of(rt, alloc, COUNTING, 5, IDLE)
-}
-
-/// Runs the program with these words over this folder and input: its status. What it writes, and what it reports, goes to these writers.
-pub fn run_in<T: Threads + Wait + Clock + Abort + Sync, F: Folder + Sync, W: Write, E: Write>(
-    rt: &T,
-    alloc: Global,
-    folder: &F,
-    input: &[u8],
-    words: &[&str],
-    output: &mut W,
-    errors: &mut E,
-) -> u8 {
-    let words = words_of(rt, alloc, words).into_iter();
-    let mut streams = Streams {
-        input,
-        output,
-        errors,
-    };
-    run_program(rt, alloc, alloc, Ok(words), folder, &mut streams).code()
-}
-
-/// The same over this movie.
+/// Runs the program with these words over this movie: its status. What it writes, and what it reports, goes to these writers.
 fn run_search<T: Threads + Wait + Clock + Abort + Sync, W: Write, E: Write>(
     rt: &T,
     alloc: Global,
@@ -86,20 +56,6 @@ fn run_search<T: Threads + Wait + Clock + Abort + Sync, W: Write, E: Write>(
 ) -> u8 {
     let (game, input) = movie.files();
     run_in(rt, alloc, &Place { game }, input, words, output, errors)
-}
-
-/// A report without its rates, which no two runs have in common.
-pub fn timeless<R: Abort>(rt: &R, alloc: Global, report: &[u8]) -> Vec<u8> {
-    let mut kept = Vec::new(alloc);
-    for line in expect_ok(rt, str::from_utf8(report)).split_inclusive('\n') {
-        let (front, end) = match line.strip_suffix(" frames a second\n") {
-            Some(counts) => (counts.rsplit_once(", ").unwrap_or((line, "")).0, "\n"),
-            None => (line, ""),
-        };
-        expect_ok(rt, kept.extend_from_slice(front.as_bytes()));
-        expect_ok(rt, kept.extend_from_slice(end.as_bytes()));
-    }
-    kept
 }
 
 /// Fails where the program over this movie ends in another way; its rates may be any.

@@ -1,7 +1,8 @@
 //! What the program says to somebody who doesn't know that a movie is read from standard input; and how wide its helps are.
 
 use crate::checks::{check_same, check_that};
-use crate::programs::{ONE_FRAME, check_run, only_game, run};
+use crate::programs::ONE_FRAME;
+use crate::two_files::{check_run, only_game, run};
 use std::alloc::Global;
 use std::process::Abort;
 use std::sync::Wait;

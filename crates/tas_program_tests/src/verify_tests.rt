@@ -3,7 +3,8 @@
 use crate::checks::{check_same, check_that, expect_ok};
 use crate::movies::{PLAYFIELD, STORING, image_of};
 use crate::played_tests::{BY_FRAME, BY_STRETCH};
-use crate::programs::{TWO_FRAMES, check_ran, words_of};
+use crate::programs::{TWO_FRAMES, words_of};
+use crate::two_files::check_ran;
 use std::alloc::{Alloc, Global};
 use std::fs::Files;
 use std::io::{Error, ErrorKind, Write};

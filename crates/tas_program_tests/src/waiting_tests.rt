@@ -6,7 +6,8 @@ ghost use Rattle.std.specs.Cmp.Lexicographic.{pointwise};
 
 use crate::checks::{check_same, check_that};
 use crate::movies::{PLAYFIELD, image_of};
-use crate::programs::{End, ONE_FRAME, words_of};
+use crate::programs::{ONE_FRAME, words_of};
+use crate::two_files::End;
 use std::alloc::Global;
 use std::io;
 use std::io::{Error, ErrorKind};

@@ -2,8 +2,9 @@
 
 use crate::checks::{check_same, check_that, expect_ok};
 use crate::movies::{PLAYFIELD, image_of};
-use crate::programs::{ONE_FRAME, check_run, check_unread, only_game, run};
+use crate::programs::ONE_FRAME;
 use crate::tasks::check_task;
+use crate::two_files::{check_run, check_unread, only_game, run};
 use std::alloc::Global;
 use std::io::ErrorKind;
 use std::process::Abort;

@@ -1,4 +1,5 @@
-//! Cartridges and movies of the tests. `tas_tool_tests` and `tas_program_tests` have this file, letter by letter: checks.rt says why.
+//! Cartridges and movies of the tests. `tas_tool_tests`, `tas_program_tests` and `program_file_tests` have this file, letter by letter: checks.rt
+//! says why.
 
 use crate::checks::expect_ok;
 use std::alloc::Global;

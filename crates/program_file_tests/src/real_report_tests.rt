@@ -2,8 +2,7 @@
 
 use crate::checks::{check_same, check_that, expect_ok};
 use crate::movies::{IDLE, Recording, recording_of};
-use crate::programs::words_of;
-use crate::search_tests::{COUNTING, timeless};
+use crate::programs::{COUNTING, timeless, words_of};
 use std::alloc::{Alloc, Global};
 use std::fs;
 use std::fs::Files;
