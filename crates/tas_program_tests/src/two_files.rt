@@ -56,8 +56,7 @@ pub fn only_game(game: &[u8]) -> TwoFiles<'_> {
     TwoFiles { game, other: b"" }
 }
 
-/// Runs the program with these words over this folder and input: its status. What it writes, and what it tells of faults, goes to
-/// these writers.
+/// Runs the program with these words over this folder and input: its status. Its output and its faults go to these writers.
 pub fn run_words<T: Threads + Wait + Clock + Sync, W: Write, E: Write>(
     rt: &T,
     alloc: Global,
@@ -89,7 +88,7 @@ pub fn run<T: Threads + Wait + Clock + Abort + Sync, W: Write, E: Write>(
     run_words(rt, alloc, Ok(words), folder, input, output, errors)
 }
 
-/// A status, what the program writes, and what it tells of faults.
+/// A status, what is on standard output, and what is on standard error.
 pub type End<'a> = (u8, &'a [u8], &'a [u8]);
 
 /// Fails where a run with these words ended in another way.

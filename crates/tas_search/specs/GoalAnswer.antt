@@ -14,6 +14,6 @@ use Rattle.tas_search.specs.Extreme.{IsExtremeAnswer}
 -- the shortest sequence of at most `count` choices that reaches a machine of whose RAM the expression doesn't make 0; or that of `count`
 -- choices whose machine's RAM it makes the greatest number of, or the least one
 abbrev pub IsGoalAnswer : SpaceContent → GoalKind → Tree → ℕ → ℕ → Outcome → Type 0
-IsGoalAnswer s Reach e count states outcome = IsReachAnswer s (holds_of (value_of e)) count states outcome
-IsGoalAnswer s Most e count states outcome = IsExtremeAnswer s aim.Most (value_in (value_of e)) count states outcome
-IsGoalAnswer s Least e count states outcome = IsExtremeAnswer s aim.Least (value_in (value_of e)) count states outcome
+IsGoalAnswer s Reach t count states outcome = IsReachAnswer s (holds_of (value_of t)) count states outcome
+IsGoalAnswer s Most t count states outcome = IsExtremeAnswer s aim.Most (value_in (value_of t)) count states outcome
+IsGoalAnswer s Least t count states outcome = IsExtremeAnswer s aim.Least (value_in (value_of t)) count states outcome

@@ -17,6 +17,7 @@ pub data Tree : Type 0 where
   negated : Tree → Tree
   joined : Operator → Tree → Tree → Tree
 
+-- what the code's expression says, whichever allocator its parts are from
 abbrev pub tree_of : {Z : Type 0} → Expression Z → Tree
 tree_of (Number n) = number n
 tree_of (Byte at) = byte at

@@ -17,7 +17,7 @@ pub struct Formula<A: Allocator = Global> {
     ghost fits: { weight (tree_of expression) < 2 ^ 63 },
 }
 
-// Contracts see a formula as the tree of its expression: where its memory is makes no difference.
+// Contracts see a formula as the tree of its expression, whichever allocator its memory is from.
 impl<A: Allocator> Model for Formula<A> {
     ghost use Rattle.std.specs.Prelude.{List};
     ghost use Rattle.std.specs.Coded.{code_by, codes};

@@ -76,15 +76,17 @@ fn step_of(error: SearchError) -> Option<Step> {
 fn count_of_goal<R: Abort>(rt: &R, alloc: Global, text: &[u8]) -> u64 {
     let names = expect_ok(rt, read_names(alloc, b"n 80\n"));
     let whole = expect_ok(rt, read_goal(alloc, names.as_slice(), text));
-    let ram = [7u8; 128];
     for number in 1..MOST {
         let heap = Refusing::new(alloc, number);
         match read_goal(&heap, names.as_slice(), text) {
             Ok(goal) => {
                 check_that(rt, (text, number), !heap.has_refused());
                 check_same(rt, (text, number), goal.kind, whole.kind);
-                let value = whole.formula.value(&ram);
-                check_same(rt, (text, number), goal.formula.value(&ram), value);
+                for byte in [0u8, 7, 0x93] {
+                    let ram = [byte; 128];
+                    let value = whole.formula.value(&ram);
+                    check_same(rt, (text, byte), goal.formula.value(&ram), value);
+                }
                 return number.saturating_sub(1);
             }
             Err(fault) => {
@@ -193,8 +195,8 @@ fn refused_reply<R: Abort + Threads + Clock + Sync>(
     (reply, heap.has_refused())
 }
 
-/// Refuses a search its growths in turn, until it grows no more: the steps to which they belong, each once where they are in order. After
-/// each growth that was refused it has no answer, and the first lines of its report, or ends as ever.
+/// Refuses a search its growths in turn, until it grows no more: the steps to which they belong, one for each growth without which there is
+/// no answer. After each growth that was refused it has no answer, and the first lines of its report, or ends as ever.
 fn steps_refused<R: Abort + Threads + Clock + Sync>(
     rt: &R,
     alloc: Global,
@@ -211,10 +213,7 @@ fn steps_refused<R: Abort + Threads + Clock + Sync>(
         match answer {
             Err(error) => {
                 check_that(rt, number, has_refused);
-                let step = expect_some(rt, step_of(error));
-                if steps.last().copied() != Some(step) {
-                    expect_ok(rt, steps.push(step));
-                }
+                expect_ok(rt, steps.push(expect_some(rt, step_of(error))));
                 let is_beginning = whole.report.starts_with(report.as_slice());
                 check_that(rt, number, is_beginning);
             }
@@ -229,6 +228,34 @@ fn steps_refused<R: Abort + Threads + Clock + Sync>(
     }
     check_that(rt, "it grows no more", false);
     steps
+}
+
+/// How many of the steps are this one.
+fn count_of(steps: &[Step], wanted: Step) -> u64 {
+    let mut count = 0u64;
+    for step in steps {
+        if *step == wanted {
+            count = count.saturating_add(1);
+        }
+    }
+    count
+}
+
+/// Fails where a search's steps, each once where it comes several times in a row, are others, or where one that reads a file or the goal
+/// comes more or less often than what it reads takes memory.
+fn check_steps<R: Abort>(rt: &R, alloc: Global, goal: &[u8], steps: &[Step], wanted: &[Step]) {
+    let mut order = Vec::new(alloc);
+    for step in steps {
+        if order.last().copied() != Some(*step) {
+            expect_ok(rt, order.push(*step));
+        }
+    }
+    check_same(rt, goal, order.as_slice(), wanted);
+    // The choices are one list. The names are one, with one name's text.
+    check_same(rt, goal, count_of(steps, Step::Choices), 1);
+    check_same(rt, goal, count_of(steps, Step::Names), 2);
+    let growths = count_of_goal(rt, alloc, goal);
+    check_same(rt, goal, count_of(steps, Step::Goal), growths);
 }
 
 #[test]
@@ -251,9 +278,9 @@ fn each_growth_of_a_whole_search(rt: HostRuntime) {
         // With one worker the growths come in one order.
         asked.workers = 1;
         let steps = steps_refused(&rt, alloc, &asked, &bytes, false);
-        check_same(&rt, goal, steps.as_slice(), OF_BYTES);
+        check_steps(&rt, alloc, goal, steps.as_slice(), OF_BYTES);
         let steps = steps_refused(&rt, alloc, &asked, &bytes, true);
-        check_same(&rt, goal, steps.as_slice(), OF_READERS);
+        check_steps(&rt, alloc, goal, steps.as_slice(), OF_READERS);
     }
 }
 
@@ -272,5 +299,5 @@ fn the_sticks_choices_are_refused(rt: HostRuntime) {
     asked.workers = 1;
     asked.has_choices = false;
     let steps = steps_refused(&rt, alloc, &asked, &bytes, false);
-    check_same(&rt, "stick", steps.as_slice(), OF_BYTES);
+    check_steps(&rt, alloc, asked.goal, steps.as_slice(), OF_BYTES);
 }

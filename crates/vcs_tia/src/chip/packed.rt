@@ -323,7 +323,7 @@ impl PackedTia {
         }
     }
 
-    /// The places of players 0 and 1, of missiles 0 and 1, and of the ball: pixels, each below 160.
+    /// The places of players 0 and 1, of missiles 0 and 1, and of the ball, in pixels from the left.
     /// (Stella Programmer's Guide, "Horizontal Positioning")
     pub fn places(&self) -> [u8; 5]
         // The five places are those of the TIA that was packed.
