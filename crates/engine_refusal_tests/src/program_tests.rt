@@ -15,7 +15,8 @@ use std::time::Clock;
 use tas_program::{Folder, OrdinaryFile, Permit, Streams, run_program};
 use test_streams::{Failure, Giver, Room, Taker};
 
-/// A folder with the files `game.bin` and `fix.script`, in which a file `new` can be made. It counts how often this is renamed.
+/// A folder with the files `game.bin`, `fix.script`, `choices` and `names`, in which a file `new` can be made. It counts how often this is
+/// renamed.
 #[derive(Drop)]
 struct TwoFiles<'a> {
     alloc: Global,
@@ -25,6 +26,11 @@ struct TwoFiles<'a> {
 
 /// The script `fix.script`.
 const SCRIPT: &[u8] = b"delete 0 1\n";
+
+/// The choices of a search, and its names.
+const CHOICES: &[u8] = b"..... ..... .....\nR.... ..... .....\n";
+
+const NAMES: &[u8] = b"n 80\n";
 
 impl<'a> Folder for TwoFiles<'a> {
     type File = Giver<'a>;
@@ -36,13 +42,14 @@ impl<'a> Folder for TwoFiles<'a> {
     }
 
     fn open(&self, name: &str) -> io::Result<Giver<'a>> {
-        if name == "game.bin" {
-            Ok(Giver::new(self.game, usize::MAX, 0))
-        } else if name == "fix.script" {
-            Ok(Giver::new(SCRIPT, usize::MAX, 0))
-        } else {
-            Err(Error::from(ErrorKind::NotFound))
-        }
+        let bytes = match name {
+            "game.bin" => self.game,
+            "fix.script" => SCRIPT,
+            "choices" => CHOICES,
+            "names" => NAMES,
+            _ => return Err(Error::from(ErrorKind::NotFound)),
+        };
+        Ok(Giver::new(bytes, usize::MAX, 0))
     }
 
     fn open_to_write(&self, _permit: Permit, _name: &str) -> io::Result<Taker> {
@@ -159,11 +166,12 @@ fn count_refused<T: Wait + Threads + Clock + Abort + Sync>(
 /// Words, whether the input is the cartridge or a movie of three frames, how many growths end the program, and at how many it ends as ever.
 ///
 /// A text of clap's, or that the words aren't text, has one growth, and a task those of its engine: `trace` 3, `check` 9 with the list of its
-/// files, `shot` 7 before it misses the frame, `search` 17 with the list of its files where the start meets the goal, `edit` 9, and with `-o`
+/// files, `shot` 7 before it misses the frame, `search` 17 with the list of its files where the start meets the goal, and 20 with files of
+/// choices and names and a report, `edit` 9, and with `-o`
 /// three more for the text that is held and the name of the new file, `export` by one worker 34 and by two 36. The list of words has one, for
 /// all of them, and where it is refused asks for less; so do the digits of a search's number of sequences. A fault's line of 23 bytes has
 /// three, its room and twice more of it; where they are refused it goes out in pieces.
-static RUNS: [(&[&str], bool, u64, u64); 11] = [
+static RUNS: [(&[&str], bool, u64, u64); 12] = [
     (&[], false, 1, 0),
     (&["tas", "play"], false, 1, 1),
     (&["tas", "--version"], false, 1, 1),
@@ -181,6 +189,25 @@ static RUNS: [(&[&str], bool, u64, u64); 11] = [
         &["tas", "search", "game.bin", "0", "1", "reach byte:80 == 0"],
         false,
         17,
+        2,
+    ),
+    (
+        &[
+            "tas",
+            "search",
+            "game.bin",
+            "0",
+            "1",
+            "reach n == 0",
+            "--choices",
+            "choices",
+            "--names",
+            "names",
+            "--report",
+            "new",
+        ],
+        false,
+        20,
         2,
     ),
     (&["tas", "export", "game.bin", "1", "3", "1"], false, 34, 1),

@@ -1,9 +1,9 @@
 //! The lines of a search's layers: their numbers, by hand, their rates by a clock that is read by the test, and writes of them that fail.
 
-use crate::checks::{check_same, check_that, expect_ok};
+use crate::checks::{check_same, check_that, expect_ok, expect_some};
 use crate::goals::{COUNTER, TRAP, cart_of, counter_is, three_choices};
 use std::alloc::Global;
-use std::io;
+use std::io::{self, Write};
 use std::process::Abort;
 use std::sync::atomic::{AtomicU64, Ordering};
 use std::thread::Threads;
@@ -58,14 +58,6 @@ layer 2: 4 frames, 7 states, 2 merged, 18 played, 2576 bytes\n";
 
 /// The first of these lines.
 const FIRST: &[u8] = b"layer 1: 2 frames, 3 states, 0 merged, 6 played, 1024 bytes\n";
-
-/// Fails where these aren't the first bytes of both lines, of the first one alone where there was less room than for it.
-fn check_cut<R: Abort>(rt: &R, alloc: Global, room: usize, taken: &[u8]) {
-    check_same(rt, room, taken.len(), room);
-    let taken = timeless(rt, alloc, taken);
-    check_that(rt, room, DOUBLE.starts_with(taken.as_slice()));
-    check_that(rt, room, (taken.len() > FIRST.len()) == (room >= 100));
-}
 
 /// To the right alone: the number is 2 after three frames, and there it halts.
 const HALTS: &[u8] = b"layer 1: 1 frames, 1 states, 0 merged, 1 played, 512 bytes\n\
@@ -133,13 +125,18 @@ impl<R> Clock for Ticking<'_, R> {
     }
 }
 
+/// Both lines of a search for a number that no sequence reaches, and the first of them, where each reading of the clock shows half a second
+/// more.
+const CLOCKED: &[u8] =
+    b"layer 1: 2 frames, 3 states, 0 merged, 6 played, 1024 bytes, 12 frames a second\n\
+layer 2: 4 frames, 7 states, 2 merged, 18 played, 2576 bytes, 36 frames a second\n";
+
+const CLOCKED_FIRST: &[u8] =
+    b"layer 1: 2 frames, 3 states, 0 merged, 6 played, 1024 bytes, 12 frames a second\n";
+
 /// The lines of two layers, for which 6 and 18 frames are played, with their rates.
 const RATES: [(Option<u64>, &[u8]); 4] = [
-    (
-        Some(500),
-        b"layer 1: 2 frames, 3 states, 0 merged, 6 played, 1024 bytes, 12 frames a second\n\
-layer 2: 4 frames, 7 states, 2 merged, 18 played, 2576 bytes, 36 frames a second\n",
-    ),
+    (Some(500), CLOCKED),
     (
         Some(4_000),
         b"layer 1: 2 frames, 3 states, 0 merged, 6 played, 1024 bytes, 1 frames a second\n\
@@ -183,37 +180,50 @@ fn rates_are_by_the_clock(rt: HostRuntime) {
     }
 }
 
-#[test]
-fn lines_that_fail(rt: HostRuntime) {
-    let alloc = rt.alloc();
+/// Writes the lines of this search to two writers, and fails where it doesn't end since one of them refuses a write.
+fn write_lines<R: Abort + Threads + Sync, A: Write, B: Write>(
+    rt: &R,
+    alloc: Global,
+    shown: &mut A,
+    kept: &mut B,
+) {
     let inputs = three_choices();
-    let cart = cart_of(&rt, alloc, COUNTER);
+    let cart = cart_of(rt, alloc, COUNTER);
     let space = Space::new(&cart, State::power_on(&cart), &inputs, 2);
-    let goal = counter_is(&rt, alloc, 99);
+    let goal = counter_is(rt, alloc, 99);
     let limits = Limits {
         count: 2,
         states: 100,
         workers: 2,
     };
-    // The first line has 78 bytes and the digits of its rate.
-    for room in [0usize, 1, 30, 59, 100, 120] {
+    let clock = Ticking {
+        threads: rt,
+        step: Some(500),
+        readings: AtomicU64::new(0),
+    };
+    let end = find_shortest(&clock, alloc, &space, &goal, limits, shown, kept);
+    check_that(rt, "a report", end.err() == Some(Unfinished::Report));
+}
+
+#[test]
+fn lines_that_fail(rt: HostRuntime) {
+    let alloc = rt.alloc();
+    for room in 0..CLOCKED.len() {
+        let cut = expect_some(&rt, CLOCKED.get(..room));
+        let has_first = CLOCKED_FIRST.len() <= room;
         for failure in [Failure::Error, Failure::Interrupted, Failure::Nothing] {
+            // A line is shown once it is in the report.
             let mut kept = Taker::new(alloc, 7, Room::Bytes(room), failure);
             let mut shown = Vec::new(alloc);
-            let end = find_shortest(&rt, alloc, &space, &goal, limits, &mut shown, &mut kept);
-            check_that(&rt, room, end.err() == Some(Unfinished::Report));
-            check_cut(&rt, alloc, room, kept.taken.as_slice());
-            // A line is shown once it is in the report.
-            let shown = timeless(&rt, alloc, shown.as_slice());
-            let whole = if room < 100 { b"".as_slice() } else { FIRST };
+            write_lines(&rt, alloc, &mut shown, &mut kept);
+            check_same(&rt, room, kept.taken.as_slice(), cut);
+            let whole = if has_first { CLOCKED_FIRST } else { b"" };
             check_same(&rt, room, shown.as_slice(), whole);
             let mut shown = Taker::new(alloc, 7, Room::Bytes(room), failure);
             let mut kept = Vec::new(alloc);
-            let end = find_shortest(&rt, alloc, &space, &goal, limits, &mut shown, &mut kept);
-            check_that(&rt, room, end.err() == Some(Unfinished::Report));
-            check_cut(&rt, alloc, room, shown.taken.as_slice());
-            let kept = timeless(&rt, alloc, kept.as_slice());
-            let whole = if room < 100 { FIRST } else { DOUBLE };
+            write_lines(&rt, alloc, &mut shown, &mut kept);
+            check_same(&rt, room, shown.taken.as_slice(), cut);
+            let whole = if has_first { CLOCKED } else { CLOCKED_FIRST };
             check_same(&rt, room, kept.as_slice(), whole);
         }
     }
