@@ -3,3 +3,4 @@ pub mod NoteLemmas
 pub mod TalkLemmas
 pub mod ReceiptLemmas
 pub mod SharedLemmas
+pub mod CallLemmas

@@ -1,11 +1,10 @@
 -- What a journal has before a line and after it.
 use Rattle.std.proofs.Common.{◌≡◌, ℕ, ◌+◌, ◌-◌, ◌<◌, ◌≤◌, List, ◌++◌, length, take, drop, Option, Some, refl, sym, ap, subst, ◌∙◌, arith}
-use Rattle.std.specs.Prelude.{min}
+use Rattle.std.specs.Prelude.{min, is_some, Bool}
 use Rattle.std.specs.Io.KnownBytes.{Appends}
 use Rattle.std.proofs.KnownBytes.{Appends-trans}
-use Rattle.std.proofs.lemmas.List.{take-append-le, length-append, length-drop, length-take, take_all}
+use Rattle.std.proofs.lemmas.List.{length-append, length-drop, length-take, take_all}
 use Rattle.std.proofs.Math.Seq.{take-append-add}
-use mathlib.Core.List.{IsPrefix}
 use Rattle.byte_text.specs.CutOff.{IsCutOff}
 use Rattle.tas_published.specs.declared.entry.Entry.{Entry}
 use Rattle.tas_published.proofs.PrefixLemmas.{prefix_self}
@@ -14,11 +13,11 @@ use Rattle.tas_journal.specs.Text.{entry_lines}
 use Rattle.tas_language.specs.declared.request.Request.{Request}
 use Rattle.tas_seat.specs.Conversations.{TalkingSeat}
 use Rattle.tas_seat.specs.Outcomes.{HasTalkAnswer}
-use Rattle.tas_seat.proofs.HistoryLemmas.{line_leaves}
 use Rattle.tas_journaling.specs.declared.journal.JournalFault.{JournalFault}
 use Rattle.tas_journaling.specs.declared.journal.JournalFault.TheVariants.{Write, Sync, Memory}
 use Rattle.tas_journaling.specs.Journals.{journaled, lines_from, JournalContent, IsNoted, IsCutShort, IsUnsynced, IsGivenPart}
-use Rattle.tas_journaling.specs.Answers.{KeepsUp, FallsShort}
+use Rattle.tas_journaling.specs.Noting.{NoteFacts, KeepsUp, KeepsUpBy, FallsShort, may_edit}
+use Rattle.tas_journaling.specs.NoteLaws.{AreNoteLaws, noted_on}
 use Rattle.tas_journaling.proofs.LineLemmas.{lines_split}
 
 -- ---- seats
@@ -27,21 +26,6 @@ pub keeps_same : {A : Type 0} (seat : SeatContent A) → KeepsZone seat seat
 keeps_same seat = record { seen = record { number = refl; made = refl; begins = prefix_self seat.front }; zone = refl }
 
 -- ---- histories
-
-prefix_length : {X : Type 0} (a b : List X) (p : IsPrefix a b) → length b ≡ length a + length p.0
-prefix_length {X} a b p = ap (λ (l : List X). length l) (sym p.1) ∙ length-append a p.0
-
--- of a longer history a journal has the same beginning
-pub noted_on : {A : Type 0} (head : Option (List ℕ)) (old new : List (Entry A)) (journal : JournalContent) → IsNoted head old journal → IsPrefix old new → IsNoted head new journal
-noted_on {A} head old new journal is more =
-    let same : take journal.upto new ≡ take journal.upto old =
-    ap (λ (l : List (Entry A)). take journal.upto l) (sym more.1) ∙ take-append-le journal.upto old more.0 is.few in
-    record {
-      whole = is.whole;
-      from = is.from;
-      few = omega (arith, is.few, prefix_length old new more);
-      bytes = subst (λ (l : List (Entry A)). Appends head journal.bytes (lines_from journal.first l)) (sym same) is.bytes;
-    }
 
 -- how many entries were asked for
 pub entries_length : {A : Type 0} (most upto at : ℕ) (history entries : List (Entry A)) → entries ≡ take most (drop upto history) → at ≡ length history → length entries ≡ min most (at - upto)
@@ -167,16 +151,8 @@ failed_before before now journal Sync is = λ head noted. absurd (cc (is, noted.
 
 -- ---- answers
 
--- what a seat had seen begins what it has seen once it is answered
-noted_then : {A : Type 0} (head : Option (List ℕ)) (before now : TalkingSeat A) (request : Request) (answer : List ℕ) (journal : JournalContent) → HasTalkAnswer A before now request answer → IsNoted head before.seat.front journal → IsNoted head now.seat.front journal
-noted_then {A} head before now request answer journal answered is =
-    noted_on head before.seat.front now.seat.front journal is (line_leaves A before now (Some request) answer answered.0 answered.1).seen
-
-pub keeps_up_from : {A : Type 0} (before now : TalkingSeat A) (last : SeatContent A) (request : Request) (answer : List ℕ) (old new : JournalContent) → HasTalkAnswer A before now request answer → KeepsUp now.seat last old new → KeepsUp before.seat last old new
-keeps_up_from before now last request answer old new answered keeps = λ head is. keeps head (noted_then head before now request answer old answered is)
-
-pub falls_short_from : {A : Type 0} (before now : TalkingSeat A) (last : SeatContent A) (request : Request) (answer : List ℕ) (old new : JournalContent) (fault : JournalFault) → HasTalkAnswer A before now request answer → FallsShort now.seat last old new fault
-    → FallsShort before.seat last old new fault
-falls_short_from before now last request answer old new Memory answered short = short
-falls_short_from before now last request answer old new Write answered short = λ head is. short head (noted_then head before now request answer old answered is)
-falls_short_from before now last request answer old new Sync answered short = λ head is. short head (noted_then head before now request answer old answered is)
+-- notes that are brought up to a seat once it is answered are brought up to it from where it was before
+pub keeps_up_from : {A J : Type 0} {notes : NoteFacts A J} (laws : AreNoteLaws notes) (before now : TalkingSeat A) (last : SeatContent A) (request : Request) (answer : List ℕ) (edits : Bool) (old new : J) → HasTalkAnswer A before now request answer
+    → edits ≡ may_edit (is_some before.draft) request → KeepsUpBy notes edits now.seat last old new → KeepsUpBy notes (may_edit (is_some before.draft) request) before.seat last old new
+keeps_up_from {A} {J} {notes} laws before now last request answer edits old new answered is keeps = λ head ready.
+    subst (λ (e : Bool). KeepsUpBy notes e now.seat last old new) is keeps head (laws.ready_on head before now request answer old answered ready)

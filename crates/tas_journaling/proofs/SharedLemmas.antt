@@ -1,19 +1,21 @@
 -- What a journal that several conversations share has.
-use Rattle.std.proofs.Common.{◌≡◌, ℕ, ◌≤◌, List, [], ◌∷◌, length, take, drop, Option, Some, None, refl, sym, ap, subst, ◌∙◌, arith}
+use Rattle.std.proofs.Common.{◌≡◌, ℕ, ◌≤◌, List, [], ◌∷◌, length, take, drop, Bool, true, false, Option, Some, None, Result, Ok, Err, refl, sym, ap, subst, ◌∙◌, arith}
+use Rattle.std.specs.Prelude.{OnOk, OnErr, IfErr}
 use Rattle.std.specs.Io.KnownBytes.{Appends}
 use Rattle.std.proofs.KnownBytes.{Appends-nil}
-use Rattle.std.proofs.lemmas.List.{length-append, length-drop, length-take-le, take-append-drop}
+use Rattle.std.proofs.lemmas.List.{length-append, length-drop, length-take-le, take-append-drop, take-append-le, take_all}
 use mathlib.Core.List.{IsPrefix}
 use Rattle.tas_published.specs.declared.entry.Entry.{Entry}
+use Rattle.tas_published.specs.History.{entries_of}
 use Rattle.tas_desk.specs.Seats.{SeatContent, KeepsZone}
 use Rattle.tas_published.proofs.PrefixLemmas.{prefix_trans, prefix_shorter}
 use Rattle.tas_journal.specs.Text.{entry_lines}
 use Rattle.tas_journaling.specs.declared.journal.JournalFault.{JournalFault}
 use Rattle.tas_journaling.specs.declared.journal.JournalFault.TheVariants.{Write, Sync, Memory}
 use Rattle.tas_journaling.specs.Journals.{JournalContent, IsNoted, HasAll, HasLess, journaled, lines_from}
-use Rattle.tas_journaling.specs.Answers.{KeepsUp, FallsShort}
-use Rattle.tas_journaling.specs.Shared.{IsBlankOn, HasLinesAt, HasBeginning, IsJournalOf, HasEntries}
-use Rattle.tas_journaling.proofs.NoteLemmas.{noted_on}
+use Rattle.tas_journaling.specs.Noting.{KeepsUp, KeepsUpBy, FallsShort, shared_notes}
+use Rattle.tas_journaling.specs.NoteLaws.{noted_on, own_seen_on}
+use Rattle.tas_journaling.specs.Shared.{IsBlankOn, HasLinesAt, HasBeginning, HasSynced, IsJournalOf, HasEntries}
 
 -- ---- seats
 
@@ -22,6 +24,10 @@ seen_on before mid now first rest = record {
   seen = record { number = rest.seen.number ∙ first.seen.number; made = rest.seen.made ∙ first.seen.made; begins = prefix_trans before.front mid.front now.front first.seen.begins rest.seen.begins };
   zone = rest.zone ∙ first.zone;
 }
+
+-- what is known of a seat's number and its edits stays
+pub own_as : {A : Type 0} (own : ℕ → ℕ → Type 0) (before now : SeatContent A) → KeepsZone before now → own before.number before.made → own now.number now.made
+own_as own before now kept is = subst (λ (n : ℕ). own n now.made) (sym kept.seen.number) (subst (λ (m : ℕ). own before.number m) (sym kept.seen.made) is)
 
 -- ---- the journal
 
@@ -107,7 +113,7 @@ begins_blank {A} head first at history journal bytes first_is is long =
 prefix_long : {X : Type 0} (xs ys : List X) → IsPrefix xs ys → length xs ≤ length ys
 prefix_long {X} xs ys p = omega (arith, ap (λ (l : List X). length l) (sym p.1), length-append xs p.0)
 
-upto_in : {A : Type 0} (head : Option (List ℕ)) (front : List (Entry A)) (journal : JournalContent) (fault : Option JournalFault) → HasLinesAt head front journal fault → journal.upto ≤ length front
+pub upto_in : {A : Type 0} (head : Option (List ℕ)) (front : List (Entry A)) (journal : JournalContent) (fault : Option JournalFault) → HasLinesAt head front journal fault → journal.upto ≤ length front
 upto_in head front journal None is = is.few
 upto_in head front journal (Some Write) is = is.few
 upto_in head front journal (Some Sync) is = is.few
@@ -122,3 +128,54 @@ kept_receipt {A} head first history journal front seen told is begins there few 
       record { front = front; begins = begins; has = is },
       prefix_shorter seen (take journal.upto history) history there whole (omega (arith, few, most, size)),
     )
+
+-- ---- notes
+
+-- a seat that was noted has its edits among the entries of which its caller is told
+pub told_all : {A : Type 0} (before now : SeatContent A) (old told : ℕ) → KeepsZone before now → length now.front ≤ told → KeepsUpBy shared_notes true before now old told
+told_all {A} before now old told kept few = λ head own.
+    subst (λ (l : List (Entry A)). now.made ≤ entries_of now.number l) (sym (take_all told now.front few)) (own_seen_on before now kept.seen.number kept.seen.made kept.seen.begins own)
+
+-- nothing was done
+pub told_same : {A : Type 0} (seat : SeatContent A) (told : ℕ) → KeepsUpBy shared_notes false seat seat told told
+told_same seat told = λ head own. own
+
+pub told_done : {A : Type 0} (edits : Bool) (result : Result (Unit {0}) JournalFault) (before now : SeatContent A) (old told : ℕ) → edits ≡ true → KeepsZone before now → OnOk result (length now.front ≤ told) → OnOk result (KeepsUpBy shared_notes edits before now old told)
+told_done {A} edits (Ok u) before now old told is kept few = subst (λ (e : Bool). KeepsUpBy shared_notes e before now old told) (sym is) (told_all before now old told kept few)
+told_done edits (Err fault) before now old told is kept few = few
+
+pub told_short : {A : Type 0} (result : Result (Unit {0}) JournalFault) (before now : SeatContent A) (seen old told : ℕ) → seen ≡ old → OnErr result (told ≡ seen) → IfErr result (λ fault. shared_notes.short before now old told fault)
+told_short (Ok u) before now seen old told same is = is
+told_short (Err fault) before now seen old told same is = is ∙ same
+
+-- ---- the disk
+
+-- a journal without a fault is all on the disk
+pub synced_noted : {A : Type 0} (kept : Option (List ℕ) → Type 0) (head : Option (List ℕ)) (first : ℕ) (history : List (Entry A)) (journal : JournalContent) → journal.first ≡ first → IsNoted head history journal → kept journal.bytes → HasSynced kept head first history journal.upto
+synced_noted {A} kept head first history journal named noted disk = record {
+  bytes = journal.bytes;
+  lines = subst (λ (k : ℕ). Appends head journal.bytes (lines_from k (take journal.upto history))) named noted.bytes;
+  disk = disk;
+}
+
+-- and so is one that has a beginning
+pub synced_blank : {A : Type 0} (kept : Option (List ℕ) → Type 0) (head : Option (List ℕ)) (first : ℕ) (history : List (Entry A)) (journal : JournalContent) → HasBeginning head first history journal → journal.fault ≡ None → kept journal.bytes → HasSynced kept head first history journal.upto
+synced_blank {A} kept head first history journal is none disk = synced_noted kept head first history journal is.first_is (noted_in head first history journal is none) disk
+
+-- what was brought to the disk is there where more was seen of the history
+pub synced_on : {A : Type 0} (kept : Option (List ℕ) → Type 0) (head : Option (List ℕ)) (first upto : ℕ) (old new : List (Entry A)) → upto ≤ length old → IsPrefix old new → HasSynced kept head first old upto → HasSynced kept head first new upto
+synced_on {A} kept head first upto old new few more is = record {
+  bytes = is.bytes;
+  lines = subst (λ (l : List (Entry A)). Appends head is.bytes (lines_from first l)) (sym (ap (λ (l : List (Entry A)). take upto l) (sym more.1) ∙ take-append-le upto old more.0 few)) is.lines;
+  disk = is.disk;
+}
+
+-- the first line is that of an entry before the next one
+pub from_in : {A : Type 0} (head : Option (List ℕ)) (first : ℕ) (history : List (Entry A)) (journal : JournalContent) → HasBeginning head first history journal → first ≤ journal.upto
+from_in {A} head first history journal is = subst (λ (k : ℕ). k ≤ journal.upto) is.first_is (go journal.fault is.lines)
+  where
+    go : (fault : Option JournalFault) → HasLinesAt head history journal fault → journal.first ≤ journal.upto
+    go None lines = lines.from
+    go (Some Write) lines = lines.from
+    go (Some Sync) lines = lines.from
+    go (Some Memory) lines = lines.from

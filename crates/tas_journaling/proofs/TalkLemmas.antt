@@ -1,6 +1,6 @@
 -- Conversations with a journal, line by line.
 use Rattle.std.proofs.Common.{◌≡◌, ℕ, ◌+◌, List, [], ◌∷◌, ◌++◌, length, take, Option, Some, None, Result, Ok, Err, inl, inr, refl, sym, ap, subst, ◌∙◌, arith, append_assoc, length-append, append-nil}
-use Rattle.std.specs.Prelude.{min, OnOk, IfOk, IfErr}
+use Rattle.std.specs.Prelude.{min, is_some, Bool, OnOk, IfOk, IfErr}
 use Rattle.std.specs.Io.KnownBytes.{Appends, Consumes, Keeps, IsAtEnd}
 use Rattle.std.proofs.KnownBytes.{Appends-nil, Appends-trans, Consumes-nil, Consumes-trans, Consumes-kept}
 use Rattle.std.proofs.lemmas.Grind.{flat_map-append}
@@ -10,8 +10,7 @@ use Rattle.byte_text.specs.CutOff.{IsCutOff}
 use Rattle.byte_text.specs.Splitting.{NoByte}
 use Rattle.tas_movie.specs.Text.{line}
 use Rattle.tas_movie.specs.declared.edit.Edit.{Edit}
-use Rattle.tas_published.specs.declared.entry.Entry.{Entry}
-use Rattle.tas_published.proofs.PrefixLemmas.{prefix_trans}
+use Rattle.tas_published.proofs.PrefixLemmas.{prefix_self, prefix_trans}
 use Rattle.tas_desk.specs.Seats.{SeatContent, KeepsZone}
 use Rattle.tas_engines.specs.declared.fault.RunFault.{RunFault}
 use Rattle.tas_engines.specs.declared.fault.RunFault.TheVariants.{Write, Size, Text, NoFrame as OffMovie, Range as OffRange, Halted as Stopped, HaltedFrame as StoppedFrame, Script, Place, Long, NoPlace, NoEntry, Foreign, Memory}
@@ -28,62 +27,61 @@ use Rattle.tas_seat.specs.Talk.{Exchange, IsExchange, AreExchanges, IsQuit, IsCa
 use Rattle.tas_seat.specs.Inside.Talking.{Breaks}
 use Rattle.tas_seat.proofs.TalkLemmas.{known_line, known_cut, line_fault, unknown_line, unknown_cut, left_as, not_looked}
 use Rattle.tas_seat.proofs.HistoryLemmas.{line_leaves, rested, Rested}
-use Rattle.tas_journaling.specs.declared.journal.JournalFault.{JournalFault}
-use Rattle.tas_journaling.specs.declared.journal.JournalFault.TheVariants as journal
 use Rattle.tas_journaling.specs.declared.answering.AnswerFault.{AnswerFault}
 use Rattle.tas_journaling.specs.declared.answering.AnswerFault.TheVariants as answer
 use Rattle.tas_journaling.specs.declared.talking.TalkFault.{TalkFault}
 use Rattle.tas_journaling.specs.declared.talking.TalkFault.TheVariants.{Tool, Journal}
-use Rattle.tas_journaling.specs.Journals.{JournalContent, IsNoted, HasAll}
-use Rattle.tas_journaling.specs.Answers.{KeepsUp, FallsShort, IsNotedAnswer}
-use Rattle.tas_journaling.specs.Talks.{Ways, AreShown, NotedEnds, JournalEnds, IsNotedTalk}
-use Rattle.tas_journaling.specs.Inside.{counted_fault, KeepsAll, BreaksJournal, IsBroken, IsNotedTurn, IsUnderway}
-use Rattle.tas_journaling.proofs.NoteLemmas.{keeps_same, noted_on}
+use Rattle.tas_journaling.specs.Noting.{NoteFacts, KeepsUpBy, NotesEnd, may_edit}
+use Rattle.tas_journaling.specs.NoteLaws.{AreNoteLaws}
+use Rattle.tas_journaling.specs.Answers.{IsNotedAnswer}
+use Rattle.tas_journaling.specs.Talks.{WaysWith, AreShown, NotedEnds, IsTalkNotedBy}
+use Rattle.tas_journaling.specs.Inside.{counted_fault, KeepsAll, BreaksNotes, IsBroken, IsNotedTurn, IsUnderway}
+use Rattle.tas_journaling.proofs.NoteLemmas.{keeps_same}
 
--- ---- journals
+-- ---- notes
 
-same_all : {A : Type 0} (seat : SeatContent A) (old new : JournalContent) → new ≡ old → KeepsAll seat seat old new
-same_all {A} seat old new is = λ head all. subst (λ (j : JournalContent). HasAll head seat.front j) (sym is) all
+same_all : {A J : Type 0} (notes : NoteFacts A J) (seat : SeatContent A) (old new : J) → new ≡ old → KeepsAll notes seat seat old new
+same_all {A} {J} notes seat old new is = λ head all. subst (λ (j : J). notes.covers head seat j) (sym is) all
 
-up_all : {A : Type 0} (before now : SeatContent A) (old new : JournalContent) → KeepsUp before now old new → KeepsAll before now old new
-up_all before now old new keeps = λ head all. keeps head all.noted
+up_all : {A J : Type 0} (notes : NoteFacts A J) (laws : AreNoteLaws notes) (edits : Bool) (before now : SeatContent A) (old new : J) → KeepsUpBy notes edits before now old new → KeepsAll notes before now old new
+up_all notes laws edits before now old new keeps = λ head all. keeps head (laws.covers_ready edits head before old all)
 
 -- ---- one line
 
-pub quit_turn : {A : Type 0} (before now : TalkingSeat A) (old new : JournalContent) (said : List ℕ) (told : ℕ) (output output' : Option (List ℕ)) (request : Request) → IsHeard said (Some request) → IsNotedAnswer before now request old new output output' (Ok None)
-    → IsNotedTurn before now old new said told output output' (Ok None)
-quit_turn before now old new said told output output' request heard is =
+pub quit_turn : {A J : Type 0} {notes : NoteFacts A J} (laws : AreNoteLaws notes) (before now : TalkingSeat A) (old new : J) (said : List ℕ) (told : ℕ) (output output' : Option (List ℕ)) (request : Request) → IsHeard said (Some request) → IsNotedAnswer notes before now request old new output output' (Ok None)
+    → IsNotedTurn notes before now old new said told output output' (Ok None)
+quit_turn {A} {J} {notes} laws before now old new said told output output' request heard is =
     ((subst (λ (r : Request). IsHeard said (Some r)) is.0 heard, is.1, subst (λ (o : Option (List ℕ)). Appends output o []) (sym is.3) (Appends-nil output)), is.2)
 
-pub known_turn : {A : Type 0} (before now : TalkingSeat A) (old new : JournalContent) (said : List ℕ) (told size next : ℕ) (output output' : Option (List ℕ)) (request : Request) → NoByte 10 said → IsHeard said (Some request)
-    → IsNotedAnswer before now request old new output output' (Ok (Some size)) → next ≡ min (told + size) most_counted → IsNotedTurn before now old new said told output output' (Ok (Some next))
-known_turn {A} before now old new said told size next output output' request none heard (text, answered, out, keeps, long) count = (
+pub known_turn : {A J : Type 0} {notes : NoteFacts A J} (laws : AreNoteLaws notes) (before now : TalkingSeat A) (old new : J) (said : List ℕ) (told size next : ℕ) (output output' : Option (List ℕ)) (request : Request) → NoByte 10 said → IsHeard said (Some request)
+    → IsNotedAnswer notes before now request old new output output' (Ok (Some size)) → next ≡ min (told + size) most_counted → IsNotedTurn notes before now old new said told output output' (Ok (Some next))
+known_turn {A} {J} {notes} laws before now old new said told size next output output' request none heard (text, answered, out, keeps, long) count = (
   answered.seat,
   known_line before (talking answered.seat now.draft) said text text request told next output output' none heard answered.answered refl out
       (count ∙ ap (λ (n : ℕ). min (told + n) most_counted) long),
   answered.shown,
-  up_all before.seat now.seat old new keeps,
+  up_all notes laws (may_edit (is_some before.draft) request) before.seat now.seat old new keeps,
 )
 
-pub unknown_turn : {A : Type 0} (seat : TalkingSeat A) (journal : JournalContent) (said : List ℕ) (told written : ℕ) (output output' : Option (List ℕ)) → NoByte 10 said → IsHeard said None → Appends output output' unknown_text
-    → written ≡ min (told + length unknown_text) most_counted → IsNotedTurn seat seat journal journal said told output output' (Ok (Some written))
-unknown_turn seat journal said told written output output' none heard out count =
-    (seat.seat, unknown_line seat said unknown_text told written output output' none heard refl out count, keeps_same seat.seat, same_all seat.seat journal journal refl)
+pub unknown_turn : {A J : Type 0} {notes : NoteFacts A J} (laws : AreNoteLaws notes) (seat : TalkingSeat A) (journal : J) (said : List ℕ) (told written : ℕ) (output output' : Option (List ℕ)) → NoByte 10 said → IsHeard said None → Appends output output' unknown_text
+    → written ≡ min (told + length unknown_text) most_counted → IsNotedTurn notes seat seat journal journal said told output output' (Ok (Some written))
+unknown_turn {A} {J} {notes} laws seat journal said told written output output' none heard out count =
+    (seat.seat, unknown_line seat said unknown_text told written output output' none heard refl out count, keeps_same seat.seat, same_all notes seat.seat journal journal refl)
 
-pub unknown_broken : {A : Type 0} (seat : TalkingSeat A) (journal : JournalContent) (said : List ℕ) (told sent : ℕ) (output output' : Option (List ℕ)) → NoByte 10 said → IsHeard said None → IsCutOff output output' unknown_text sent
-    → IsNotedTurn seat seat journal journal said told output output' (Err (counted_fault (answer.Write sent) told))
-unknown_broken seat journal said told sent output output' none heard cut = λ more.
+pub unknown_broken : {A J : Type 0} {notes : NoteFacts A J} (laws : AreNoteLaws notes) (seat : TalkingSeat A) (journal : J) (said : List ℕ) (told sent : ℕ) (output output' : Option (List ℕ)) → NoByte 10 said → IsHeard said None → IsCutOff output output' unknown_text sent
+    → IsNotedTurn notes seat seat journal journal said told output output' (Err (counted_fault (answer.Write sent) told))
+unknown_broken {A} {J} {notes} laws seat journal said told sent output output' none heard cut = λ more.
     let broken = unknown_cut seat said unknown_text told output output' (Write (min (told + sent) most_counted)) none heard refl (sent, cut, refl) more in
-    record { left_at = seat.seat; edits = broken.0; breaks = broken.1; shown = keeps_same seat.seat; noted = same_all seat.seat journal journal refl }
+    record { left_at = seat.seat; edits = broken.0; breaks = broken.1; shown = keeps_same seat.seat; noted = same_all notes seat.seat journal journal refl }
 
-pub unknown_answered : {A : Type 0} (seat : TalkingSeat A) (journal : JournalContent) (said : List ℕ) (told : ℕ) (output output' : Option (List ℕ)) (result : Result (Option ℕ) TalkFault) → NoByte 10 said → IsHeard said None
+pub unknown_answered : {A J : Type 0} {notes : NoteFacts A J} (laws : AreNoteLaws notes) (seat : TalkingSeat A) (journal : J) (said : List ℕ) (told : ℕ) (output output' : Option (List ℕ)) (result : Result (Option ℕ) TalkFault) → NoByte 10 said → IsHeard said None
     → OnOk result (Appends output output' unknown_text) → IfOk result (λ written. written ≡ Some (min (told + length unknown_text) most_counted))
-    → IfErr result (λ fault. (sent : ℕ) × IsCutOff output output' unknown_text sent × (fault ≡ counted_fault (answer.Write sent) told)) → IsNotedTurn seat seat journal journal said told output output' result
-unknown_answered seat journal said told output output' (Ok written) none heard out count fault =
-    subst (λ (w : Option ℕ). IsNotedTurn seat seat journal journal said told output output' (Ok w)) (sym count)
-    (unknown_turn seat journal said told (min (told + length unknown_text) most_counted) output output' none heard out refl)
-unknown_answered seat journal said told output output' (Err fault) none heard out count (sent, cut, is) =
-    subst (λ (f : TalkFault). IsNotedTurn seat seat journal journal said told output output' (Err f)) (sym is) (unknown_broken seat journal said told sent output output' none heard cut)
+    → IfErr result (λ fault. (sent : ℕ) × IsCutOff output output' unknown_text sent × (fault ≡ counted_fault (answer.Write sent) told)) → IsNotedTurn notes seat seat journal journal said told output output' result
+unknown_answered {A} {J} {notes} laws seat journal said told output output' (Ok written) none heard out count fault =
+    subst (λ (w : Option ℕ). IsNotedTurn notes seat seat journal journal said told output output' (Ok w)) (sym count)
+    (unknown_turn laws seat journal said told (min (told + length unknown_text) most_counted) output output' none heard out refl)
+unknown_answered {A} {J} {notes} laws seat journal said told output output' (Err fault) none heard out count (sent, cut, is) =
+    subst (λ (f : TalkFault). IsNotedTurn notes seat seat journal journal said told output output' (Err f)) (sym is) (unknown_broken laws seat journal said told sent output output' none heard cut)
 
 -- the journal failed: the line was carried out
 carried : {A : Type 0} (before now : TalkingSeat A) (said more text : List ℕ) (request : Request) (edits : List (Edit A)) → NoByte 10 said → IsHeard said (Some request) → IsTalkAnswered A before.seat before.draft now request text edits
@@ -98,14 +96,14 @@ carried before now said more text request edits none heard is = record {
   last_is = refl;
 }
 
-talk_broken : {A : Type 0} (before now : TalkingSeat A) (old new : JournalContent) (said : List ℕ) (told : ℕ) (output output' : Option (List ℕ)) (request : Request) (fault : RunFault) → NoByte 10 said → IsHeard said (Some request)
-    → HasNoTalkAnswer before now request fault × (new ≡ old) × (output' ≡ output) → (fault ≡ NoEntry → IsLook request × (before.draft ≡ None)) → IsNotedTurn before now old new said told output output' (Err (Tool (Run fault)))
-talk_broken {A} before now old new said told output output' request fault none heard (is, same, out) entry = λ more.
+talk_broken : {A J : Type 0} {notes : NoteFacts A J} (laws : AreNoteLaws notes) (before now : TalkingSeat A) (old new : J) (said : List ℕ) (told : ℕ) (output output' : Option (List ℕ)) (request : Request) (fault : RunFault) → NoByte 10 said → IsHeard said (Some request)
+    → HasNoTalkAnswer before now request fault × (new ≡ old) × (output' ≡ output) → (fault ≡ NoEntry → IsLook request × (before.draft ≡ None)) → IsNotedTurn notes before now old new said told output output' (Err (Tool (Run fault)))
+talk_broken {A} {J} {notes} laws before now old new said told output output' request fault none heard (is, same, out) entry = λ more.
     let broken = line_fault before now said request told output fault none heard is entry more in
     let breaks = subst (λ (o : Option (List ℕ)). Breaks before now.seat (line said ++ more) broken.0 told output o fault) (sym out) broken.1 in
     record { left_at = now.seat; edits = broken.0; breaks = breaks; shown = keeps_same now.seat; noted = kept fault is }
   where
-    kept : (f : RunFault) → HasNoTalkAnswer before now request f → BreaksJournal before.seat now.seat old new (Tool (Run f))
+    kept : (f : RunFault) → HasNoTalkAnswer before now request f → BreaksNotes notes before.seat now.seat old new (Tool (Run f))
     kept (Write written) never = absurd never
     kept (Size n) never = same
     kept (Text error) was = same
@@ -121,15 +119,15 @@ talk_broken {A} before now old new said told output output' request fault none h
     kept Foreign was = same
     kept Memory was = same
 
-pub known_broken : {A : Type 0} (before now : TalkingSeat A) (old new : JournalContent) (said : List ℕ) (told : ℕ) (output output' : Option (List ℕ)) (request : Request) (fault : AnswerFault) → NoByte 10 said → IsHeard said (Some request)
-    → IsNotedAnswer before now request old new output output' (Err fault) → (fault ≡ answer.Talk NoEntry → IsLook request × (before.draft ≡ None))
-    → IsNotedTurn before now old new said told output output' (Err (counted_fault fault told))
-known_broken before now old new said told output output' request (answer.Talk fault) none heard is entry =
-    talk_broken before now old new said told output output' request fault none heard is (λ e. entry (ap (λ (f : RunFault). answer.Talk f) e))
-known_broken before now old new said told output output' request (answer.Write sent) none heard (text, answered, cut, keeps) entry = λ more.
+pub known_broken : {A J : Type 0} {notes : NoteFacts A J} (laws : AreNoteLaws notes) (before now : TalkingSeat A) (old new : J) (said : List ℕ) (told : ℕ) (output output' : Option (List ℕ)) (request : Request) (fault : AnswerFault) → NoByte 10 said → IsHeard said (Some request)
+    → IsNotedAnswer notes before now request old new output output' (Err fault) → (fault ≡ answer.Talk NoEntry → IsLook request × (before.draft ≡ None))
+    → IsNotedTurn notes before now old new said told output output' (Err (counted_fault fault told))
+known_broken {A} {J} {notes} laws before now old new said told output output' request (answer.Talk fault) none heard is entry =
+    talk_broken laws before now old new said told output output' request fault none heard is (λ e. entry (ap (λ (f : RunFault). answer.Talk f) e))
+known_broken {A} {J} {notes} laws before now old new said told output output' request (answer.Write sent) none heard (text, answered, cut, keeps) entry = λ more.
     let broken = known_cut before (talking answered.seat now.draft) said text text request told output output' (Write (min (told + sent) most_counted)) none heard answered.answered refl (sent, cut, refl) more in
-    record { left_at = answered.seat; edits = broken.0; breaks = broken.1; shown = answered.shown; noted = up_all before.seat now.seat old new keeps }
-known_broken {A} before now old new said told output output' request (answer.Journal fault) none heard (text, answered, out, short) entry = λ more.
+    record { left_at = answered.seat; edits = broken.0; breaks = broken.1; shown = answered.shown; noted = up_all notes laws (may_edit (is_some before.draft) request) before.seat now.seat old new keeps }
+known_broken {A} {J} {notes} laws before now old new said told output output' request (answer.Journal fault) none heard (text, answered, out, short) entry = λ more.
     let (edits, is) = answered.answered in
     record {
       left_at = answered.seat;
@@ -170,10 +168,10 @@ line_on xs x said more is =
 
 -- ---- on the way
 
-pub goes_on : {A : Type 0} (start : SeatContent A) (first : Ways) (now later : TalkingSeat A) (written next : ℕ) (input output output' : Option (List ℕ)) (old new : JournalContent) (said more : List ℕ)
-    → IsUnderway start first now written (record { input = input; output = output; journal = old }) (line said ++ more) → IsNotedTurn now later old new said written output output' (Ok (Some next))
-    → IsUnderway start first later next (record { input = input; output = output'; journal = new }) more
-goes_on {A} start first now later written next input output output' old new said more way (left_at, (x, same, answered), shown, keeps) =
+pub goes_on : {A J : Type 0} {notes : NoteFacts A J} (laws : AreNoteLaws notes) (start : SeatContent A) (first : WaysWith J) (now later : TalkingSeat A) (written next : ℕ) (input output output' : Option (List ℕ)) (old new : J) (said more : List ℕ)
+    → IsUnderway notes start first now written (record { input = input; output = output; journal = old }) (line said ++ more) → IsNotedTurn notes now later old new said written output output' (Ok (Some next))
+    → IsUnderway notes start first later next (record { input = input; output = output'; journal = new }) more
+goes_on {A} {J} {notes} laws start first now later written next input output output' old new said more way (left_at, (x, same, answered), shown, keeps) =
     let (is, at) = alone now (talking left_at later.draft) x answered.all in
     let keeps_next : KeepsZone x.next.seat later.seat = subst (λ (s : TalkingSeat A). KeepsZone s.seat later.seat) at shown in
     let draft : later.draft ≡ x.next.draft = ap (λ (s : TalkingSeat A). s.draft) at in
@@ -188,20 +186,20 @@ goes_on {A} start first now later written next input output output' old new said
       noted = λ head all. keeps head (way.noted head all);
     }
 
-pub begins : {A : Type 0} (seat : SeatContent A) (first : Ways) → IsUnderway seat first (talking seat None) 0 first []
-begins {A} seat first = record {
+pub begins : {A J : Type 0} {notes : NoteFacts A J} (laws : AreNoteLaws notes) (seat : SeatContent A) (first : WaysWith J) → IsUnderway notes seat first (talking seat None) 0 first []
+begins {A} {J} {notes} laws seat first = record {
   exchanges = [];
   all = no_lines (talking seat None);
   left = Consumes-nil first.input;
   out = Appends-nil first.output;
   count = omega arith;
-  noted = same_all seat first.journal first.journal refl;
+  noted = same_all notes seat first.journal first.journal refl;
 }
 
-pub reads_on : {A : Type 0} (start : SeatContent A) (first : Ways) (now : TalkingSeat A) (written : ℕ) (input input' output : Option (List ℕ)) (journal : JournalContent) (rest more : List ℕ)
-    → IsUnderway start first now written (record { input = input; output = output; journal = journal }) rest → Consumes input input' more
-    → IsUnderway start first now written (record { input = input'; output = output; journal = journal }) (rest ++ more)
-reads_on start first now written input input' output journal rest more way read = record {
+pub reads_on : {A J : Type 0} {notes : NoteFacts A J} (laws : AreNoteLaws notes) (start : SeatContent A) (first : WaysWith J) (now : TalkingSeat A) (written : ℕ) (input input' output : Option (List ℕ)) (journal : J) (rest more : List ℕ)
+    → IsUnderway notes start first now written (record { input = input; output = output; journal = journal }) rest → Consumes input input' more
+    → IsUnderway notes start first now written (record { input = input'; output = output; journal = journal }) (rest ++ more)
+reads_on {A} {J} {notes} laws start first now written input input' output journal rest more way read = record {
   exchanges = way.exchanges;
   all = way.all;
   left = subst (λ (l : List ℕ). Consumes first.input input' l) (append_assoc (lines_of way.exchanges) rest more) (Consumes-trans first.input input input' (lines_of way.exchanges ++ rest) more way.left read);
@@ -213,11 +211,11 @@ reads_on start first now written input input' output journal rest more way read 
 -- ---- the end
 
 -- nothing more was done
-ends_here : {A : Type 0} (start : SeatContent A) (first : Ways) (now : TalkingSeat A) (written : ℕ) (here : Ways) (rest : List ℕ) (output : Option (List ℕ)) (result : Result (Unit {0}) TalkFault) → (way : IsUnderway start first now written here rest)
+ends_here : {A J : Type 0} {notes : NoteFacts A J} (laws : AreNoteLaws notes) (start : SeatContent A) (first : WaysWith J) (now : TalkingSeat A) (written : ℕ) (here : WaysWith J) (rest : List ℕ) (output : Option (List ℕ)) (result : Result (Unit {0}) TalkFault) → (way : IsUnderway notes start first now written here rest)
     → NotedEnds now now.seat rest (answers_of way.exchanges) [] here.input first.output output result
-    → ((head : Option (List ℕ)) → HasAll head now.seat.front here.journal → JournalEnds head now.seat.front now.seat.front here.journal result)
-    → IsNotedTalk start now.seat first (record { input = here.input; output = output; journal = here.journal }) result
-ends_here start first now written here rest output result way ends noted = record {
+    → ((head : Option (List ℕ)) → notes.covers head now.seat here.journal → NotesEnd notes head now.seat now.seat here.journal result)
+    → IsTalkNotedBy notes start now.seat first (record { input = here.input; output = output; journal = here.journal }) result
+ends_here {A} {J} {notes} laws start first now written here rest output result way ends noted = record {
   exchanges = way.exchanges;
   seat = now;
   left_at = now.seat;
@@ -230,30 +228,26 @@ ends_here start first now written here rest output result way ends noted = recor
   noted = λ head all. noted head (way.noted head all);
 }
 
-pub quits : {A : Type 0} (start : SeatContent A) (first : Ways) (now later : TalkingSeat A) (written : ℕ) (input output output' : Option (List ℕ)) (old new : JournalContent) (said more : List ℕ)
-    → IsUnderway start first now written (record { input = input; output = output; journal = old }) (line said ++ more) → NoByte 10 said → IsNotedTurn now later old new said written output output' (Ok None)
-    → IsNotedTalk start later.seat first (record { input = input; output = output'; journal = new }) (Ok tt)
-quits {A} start first now later written input output output' old new said more way none ((heard, same, out), kept) =
+pub quits : {A J : Type 0} {notes : NoteFacts A J} (laws : AreNoteLaws notes) (start : SeatContent A) (first : WaysWith J) (now later : TalkingSeat A) (written : ℕ) (input output output' : Option (List ℕ)) (old new : J) (said more : List ℕ)
+    → IsUnderway notes start first now written (record { input = input; output = output; journal = old }) (line said ++ more) → NoByte 10 said → IsNotedTurn notes now later old new said written output output' (Ok None)
+    → IsTalkNotedBy notes start later.seat first (record { input = input; output = output'; journal = new }) (Ok tt)
+quits {A} {J} {notes} laws start first now later written input output output' old new said more way none ((heard, same, out), kept) =
     let told : Appends first.output output' (answers_of way.exchanges) =
     subst (λ (l : List ℕ). Appends first.output output' l) (append-nil (answers_of way.exchanges)) (Appends-trans first.output output output' (answers_of way.exchanges) [] way.out out) in
     let quit : IsQuit (line said ++ more) = record { said = said; more = more; is = refl; whole = none; heard = heard } in
-    let ended : IsNotedTalk start now.seat first (record { input = input; output = output'; journal = old }) (Ok tt) =
-    ends_here start first now written (record { input = input; output = output; journal = old }) (line said ++ more) output' (Ok tt) way (left_as now, inl (quit, told)) (λ head all. all) in
-    subst (λ (j : JournalContent). IsNotedTalk start later.seat first (record { input = input; output = output'; journal = j }) (Ok tt)) (sym kept)
-    (subst (λ (s : TalkingSeat A). IsNotedTalk start s.seat first (record { input = input; output = output'; journal = old }) (Ok tt)) (sym same) ended)
+    let ended : IsTalkNotedBy notes start now.seat first (record { input = input; output = output'; journal = old }) (Ok tt) =
+    ends_here laws start first now written (record { input = input; output = output; journal = old }) (line said ++ more) output' (Ok tt) way (left_as now, inl (quit, told)) (λ head all. all) in
+    subst (λ (j : J). IsTalkNotedBy notes start later.seat first (record { input = input; output = output'; journal = j }) (Ok tt)) (sym kept)
+    (subst (λ (s : TalkingSeat A). IsTalkNotedBy notes start s.seat first (record { input = input; output = output'; journal = old }) (Ok tt)) (sym same) ended)
 
--- a journal of all that was seen is one of the whole history that was seen up to here
-all_upto : {A : Type 0} (head : Option (List ℕ)) (history : List (Entry A)) (journal : JournalContent) → HasAll head history journal → IsNoted head history journal × (journal.upto ≡ length history)
-all_upto head history journal all = (all.noted, all.all)
+pub memory_ends : {A J : Type 0} {notes : NoteFacts A J} (laws : AreNoteLaws notes) (start : SeatContent A) (first : WaysWith J) (now : TalkingSeat A) (written : ℕ) (here : WaysWith J) (rest : List ℕ) → IsUnderway notes start first now written here rest → IsTalkNotedBy notes start now.seat first here (Err (Tool (Run Memory)))
+memory_ends {A} {J} {notes} laws start first now written here rest way =
+    ends_here laws start first now written here rest here.output (Err (Tool (Run Memory))) way (inl (not_looked now rest), way.out) (λ head all. laws.rests_on head now.seat now.seat here.journal here.journal all (prefix_self now.seat.front) refl)
 
-pub memory_ends : {A : Type 0} (start : SeatContent A) (first : Ways) (now : TalkingSeat A) (written : ℕ) (here : Ways) (rest : List ℕ) → IsUnderway start first now written here rest → IsNotedTalk start now.seat first here (Err (Tool (Run Memory)))
-memory_ends start first now written here rest way =
-    ends_here start first now written here rest here.output (Err (Tool (Run Memory))) way (inl (not_looked now rest), way.out) (λ head all. all_upto head now.seat.front here.journal all)
-
-pub unread : {A : Type 0} (start : SeatContent A) (first : Ways) (now : TalkingSeat A) (written : ℕ) (input input' output : Option (List ℕ)) (journal : JournalContent) (rest : List ℕ)
-    → IsUnderway start first now written (record { input = input; output = output; journal = journal }) rest → NoByte 10 rest → Keeps input input'
-    → IsNotedTalk start now.seat first (record { input = input'; output = output; journal = journal }) (Err (Tool (Read Failed)))
-unread start first now written input input' output journal rest way none kept = record {
+pub unread : {A J : Type 0} {notes : NoteFacts A J} (laws : AreNoteLaws notes) (start : SeatContent A) (first : WaysWith J) (now : TalkingSeat A) (written : ℕ) (input input' output : Option (List ℕ)) (journal : J) (rest : List ℕ)
+    → IsUnderway notes start first now written (record { input = input; output = output; journal = journal }) rest → NoByte 10 rest → Keeps input input'
+    → IsTalkNotedBy notes start now.seat first (record { input = input'; output = output; journal = journal }) (Err (Tool (Read Failed)))
+unread {A} {J} {notes} laws start first now written input input' output journal rest way none kept = record {
   exchanges = way.exchanges;
   seat = now;
   left_at = now.seat;
@@ -263,14 +257,14 @@ unread start first now written input input' output journal rest way none kept = 
   left = Consumes-kept first.input input input' (lines_of way.exchanges ++ rest) way.left kept;
   ends = (left_as now, none, way.out);
   shown = keeps_same now.seat;
-  noted = λ head all. all_upto head now.seat.front journal (way.noted head all);
+  noted = λ head all. laws.rests_on head now.seat now.seat journal journal (way.noted head all) (prefix_self now.seat.front) refl;
 }
 
-pub ends_well : {A : Type 0} (start : SeatContent A) (first : Ways) (now : TalkingSeat A) (written : ℕ) (input output output' : Option (List ℕ)) (journal : JournalContent) (rest : List ℕ)
-    → IsUnderway start first now written (record { input = input; output = output; journal = journal }) rest → NoByte 10 rest → IsAtEnd input → Appends output output' (last_answer rest)
-    → IsNotedTalk start now.seat first (record { input = input; output = output'; journal = journal }) (Ok tt)
-ends_well start first now written input output output' journal rest way none end out =
-    ends_here start first now written (record { input = input; output = output; journal = journal }) rest output' (Ok tt) way
+pub ends_well : {A J : Type 0} {notes : NoteFacts A J} (laws : AreNoteLaws notes) (start : SeatContent A) (first : WaysWith J) (now : TalkingSeat A) (written : ℕ) (input output output' : Option (List ℕ)) (journal : J) (rest : List ℕ)
+    → IsUnderway notes start first now written (record { input = input; output = output; journal = journal }) rest → NoByte 10 rest → IsAtEnd input → Appends output output' (last_answer rest)
+    → IsTalkNotedBy notes start now.seat first (record { input = input; output = output'; journal = journal }) (Ok tt)
+ends_well {A} {J} {notes} laws start first now written input output output' journal rest way none end out =
+    ends_here laws start first now written (record { input = input; output = output; journal = journal }) rest output' (Ok tt) way
     (left_as now, inr (none, end, Appends-trans first.output output output' (answers_of way.exchanges) (last_answer rest) way.out out)) (λ head all. all)
 
 -- a write after some answers that was cut off
@@ -286,11 +280,11 @@ cut_off told text counted sent output output' output'' written count out cut is 
   count = omega (arith, is, count);
 }
 
-pub ends_cut : {A : Type 0} (start : SeatContent A) (first : Ways) (now : TalkingSeat A) (written sent : ℕ) (input output output' : Option (List ℕ)) (journal : JournalContent) (rest : List ℕ)
-    → IsUnderway start first now written (record { input = input; output = output; journal = journal }) rest → NoByte 10 rest → IsAtEnd input → IsCutOff output output' (last_answer rest) sent
-    → IsNotedTalk start now.seat first (record { input = input; output = output'; journal = journal }) (Err (counted_fault (answer.Write sent) written))
-ends_cut start first now written sent input output output' journal rest way none end cut =
-    ends_here start first now written (record { input = input; output = output; journal = journal }) rest output' (Err (Tool (Run (Write (min (written + sent) most_counted))))) way
+pub ends_cut : {A J : Type 0} {notes : NoteFacts A J} (laws : AreNoteLaws notes) (start : SeatContent A) (first : WaysWith J) (now : TalkingSeat A) (written sent : ℕ) (input output output' : Option (List ℕ)) (journal : J) (rest : List ℕ)
+    → IsUnderway notes start first now written (record { input = input; output = output; journal = journal }) rest → NoByte 10 rest → IsAtEnd input → IsCutOff output output' (last_answer rest) sent
+    → IsTalkNotedBy notes start now.seat first (record { input = input; output = output'; journal = journal }) (Err (counted_fault (answer.Write sent) written))
+ends_cut {A} {J} {notes} laws start first now written sent input output output' journal rest way none end cut =
+    ends_here laws start first now written (record { input = input; output = output; journal = journal }) rest output' (Err (Tool (Run (Write (min (written + sent) most_counted))))) way
     (last_answer rest, inr (left_as now, none, end, refl), cut_off (answers_of way.exchanges) (last_answer rest) written sent first.output output output' (min (written + sent) most_counted) way.count way.out cut refl)
     (λ head all. all)
 
@@ -323,32 +317,22 @@ seen_begins : {A : Type 0} (now : TalkingSeat A) (left_at last : SeatContent A) 
 seen_begins now left_at last edits result (inl strange) shown = prefix_trans now.seat.front left_at.front last.front strange.seen.begins shown.seen.begins
 seen_begins now left_at last edits result (inr left) shown = prefix_trans now.seat.front left_at.front last.front left.0.seen shown.seen.begins
 
-kept_ends : {A : Type 0} (head : Option (List ℕ)) (answered last : List (Entry A)) (old new : JournalContent) → HasAll head answered old → IsPrefix answered last → new ≡ old → IsNoted head last new × (new.upto ≡ length answered)
-kept_ends {A} head answered last old new all more is =
-    (subst (λ (j : JournalContent). IsNoted head last j) (sym is) (noted_on head answered last old all.noted more), ap (λ (j : JournalContent). j.upto) is ∙ all.all)
-
-short_ends : {A : Type 0} (head : Option (List ℕ)) (before now : SeatContent A) (old new : JournalContent) (fault : JournalFault) → HasAll head before.front old → IsPrefix before.front now.front → FallsShort before now old new fault
-    → JournalEnds head before.front now.front new (Err (Journal fault))
-short_ends head before now old new journal.Memory all more short = kept_ends head before.front now.front old new all more short
-short_ends head before now old new journal.Write all more short = let cut = short head all.noted in (cut.0, cut.1 ∙ all.all)
-short_ends head before now old new journal.Sync all more short = let cut = short head all.noted in (cut.0, cut.1 ∙ all.all)
-
-journal_ends : {A : Type 0} (head : Option (List ℕ)) (before now : SeatContent A) (old new : JournalContent) (fault : RunFault) → HasAll head before.front old → IsPrefix before.front now.front → BreaksJournal before now old new (Tool (Run fault))
-    → JournalEnds head before.front now.front new (Err (Tool (Run fault)))
-journal_ends head before now old new (Write written) all more noted = noted head all
-journal_ends head before now old new (Size n) all more noted = kept_ends head before.front now.front old new all more noted
-journal_ends head before now old new (Text error) all more noted = kept_ends head before.front now.front old new all more noted
-journal_ends head before now old new (OffMovie frame len) all more noted = kept_ends head before.front now.front old new all more noted
-journal_ends head before now old new (OffRange from to len) all more noted = kept_ends head before.front now.front old new all more noted
-journal_ends head before now old new (Stopped at opcode) all more noted = kept_ends head before.front now.front old new all more noted
-journal_ends head before now old new (StoppedFrame frame at opcode) all more noted = kept_ends head before.front now.front old new all more noted
-journal_ends head before now old new (Script number) all more noted = kept_ends head before.front now.front old new all more noted
-journal_ends head before now old new (Place number) all more noted = kept_ends head before.front now.front old new all more noted
-journal_ends head before now old new (Long number) all more noted = kept_ends head before.front now.front old new all more noted
-journal_ends head before now old new NoPlace all more noted = kept_ends head before.front now.front old new all more noted
-journal_ends head before now old new NoEntry all more noted = kept_ends head before.front now.front old new all more noted
-journal_ends head before now old new Foreign all more noted = kept_ends head before.front now.front old new all more noted
-journal_ends head before now old new Memory all more noted = kept_ends head before.front now.front old new all more noted
+breaks_end : {A J : Type 0} (notes : NoteFacts A J) (laws : AreNoteLaws notes) (head : Option (List ℕ)) (before now : SeatContent A) (old new : J) (fault : RunFault) → notes.covers head before old → IsPrefix before.front now.front
+    → BreaksNotes notes before now old new (Tool (Run fault)) → NotesEnd notes head before now new (Err (Tool (Run fault)))
+breaks_end notes laws head before now old new (Write written) all more noted = noted head all
+breaks_end notes laws head before now old new (Size n) all more noted = laws.rests_on head before now old new all more noted
+breaks_end notes laws head before now old new (Text error) all more noted = laws.rests_on head before now old new all more noted
+breaks_end notes laws head before now old new (OffMovie frame len) all more noted = laws.rests_on head before now old new all more noted
+breaks_end notes laws head before now old new (OffRange from to len) all more noted = laws.rests_on head before now old new all more noted
+breaks_end notes laws head before now old new (Stopped at opcode) all more noted = laws.rests_on head before now old new all more noted
+breaks_end notes laws head before now old new (StoppedFrame frame at opcode) all more noted = laws.rests_on head before now old new all more noted
+breaks_end notes laws head before now old new (Script number) all more noted = laws.rests_on head before now old new all more noted
+breaks_end notes laws head before now old new (Place number) all more noted = laws.rests_on head before now old new all more noted
+breaks_end notes laws head before now old new (Long number) all more noted = laws.rests_on head before now old new all more noted
+breaks_end notes laws head before now old new NoPlace all more noted = laws.rests_on head before now old new all more noted
+breaks_end notes laws head before now old new NoEntry all more noted = laws.rests_on head before now old new all more noted
+breaks_end notes laws head before now old new Foreign all more noted = laws.rests_on head before now old new all more noted
+breaks_end notes laws head before now old new Memory all more noted = laws.rests_on head before now old new all more noted
 
 -- where a rest was carried out
 carried_begins : {A : Type 0} (now : TalkingSeat A) (left_at last : SeatContent A) (rest text : List ℕ) (edits : List (Edit A)) → IsCarriedOut now left_at rest edits text → KeepsZone left_at last → IsPrefix now.seat.front last.front
@@ -357,10 +341,10 @@ carried_begins {A} now left_at last rest text edits is shown =
     let begins : IsPrefix now.seat.front left_at.front = subst (λ (s : SeatContent A). IsPrefix now.seat.front s.front) (sym is.last_is) left.seen in
     prefix_trans now.seat.front left_at.front last.front begins shown.seen.begins
 
-pub breaks_off : {A : Type 0} (start : SeatContent A) (first : Ways) (now : TalkingSeat A) (last : SeatContent A) (written : ℕ) (input output output' : Option (List ℕ)) (old new : JournalContent) (rest : List ℕ) (fault : TalkFault)
-    → IsUnderway start first now written (record { input = input; output = output; journal = old }) rest → IsBroken now last old new rest written output output' fault
-    → IsNotedTalk start last first (record { input = input; output = output'; journal = new }) (Err fault)
-breaks_off {A} start first now last written input output output' old new rest (Tool (Run fault)) way b =
+pub breaks_off : {A J : Type 0} {notes : NoteFacts A J} (laws : AreNoteLaws notes) (start : SeatContent A) (first : WaysWith J) (now : TalkingSeat A) (last : SeatContent A) (written : ℕ) (input output output' : Option (List ℕ)) (old new : J) (rest : List ℕ) (fault : TalkFault)
+    → IsUnderway notes start first now written (record { input = input; output = output; journal = old }) rest → IsBroken notes now last old new rest written output output' fault
+    → IsTalkNotedBy notes start last first (record { input = input; output = output'; journal = new }) (Err fault)
+breaks_off {A} {J} {notes} laws start first now last written input output output' old new rest (Tool (Run fault)) way b =
     let ends : TalkEnds now b.left_at rest (answers_of way.exchanges) b.edits input first.output output' (Err (Run fault)) =
     broken_ends now b.left_at rest (answers_of way.exchanges) b.edits written input first.output output output' fault way.out way.count b.breaks in
     let more : IsPrefix now.seat.front last.front = seen_begins now b.left_at last b.edits (Err (Run fault)) (rested now b.left_at rest (answers_of way.exchanges) b.edits input first.output output' (Err (Run fault)) ends) b.shown in
@@ -374,9 +358,9 @@ breaks_off {A} start first now last written input output output' old new rest (T
       left = way.left;
       ends = ends;
       shown = b.shown;
-      noted = λ head all. journal_ends head now.seat last old new fault (way.noted head all) more b.noted;
+      noted = λ head all. breaks_end notes laws head now.seat last old new fault (way.noted head all) more b.noted;
     }
-breaks_off {A} start first now last written input output output' old new rest (Journal fault) way b =
+breaks_off {A} {J} {notes} laws start first now last written input output output' old new rest (Journal fault) way b =
     let (text, is, none) = b.breaks in
     record {
       exchanges = way.exchanges;
@@ -388,10 +372,10 @@ breaks_off {A} start first now last written input output output' old new rest (J
       left = way.left;
       ends = (text, is, subst (Appends first.output output') (append-nil (answers_of way.exchanges)) (Appends-trans first.output output output' (answers_of way.exchanges) [] way.out none));
       shown = b.shown;
-      noted = λ head all. short_ends head now.seat last old new fault (way.noted head all) (carried_begins now b.left_at last rest text b.edits is b.shown) b.noted;
+      noted = λ head all. laws.lacks_on head now.seat last old new fault (way.noted head all) (carried_begins now b.left_at last rest text b.edits is b.shown) b.noted;
     }
-breaks_off start first now last written input output output' old new rest (Tool (Read fault)) way b = absurd b.breaks
-breaks_off start first now last written input output output' old new rest (Tool (Seat number fault)) way b = absurd b.breaks
+breaks_off {A} {J} {notes} laws start first now last written input output output' old new rest (Tool (Read fault)) way b = absurd b.breaks
+breaks_off {A} {J} {notes} laws start first now last written input output output' old new rest (Tool (Seat number fault)) way b = absurd b.breaks
 
 -- ---- parts of a line
 
@@ -404,23 +388,23 @@ pub split_line : (said rest front after : List ℕ) → rest ≡ front ++ 10 ∷
 split_line said rest front after is =
     ap (λ (l : List ℕ). said ++ l) is ∙ sym (append_assoc said front (10 ∷ after)) ∙ sym (append_assoc (said ++ front) (10 ∷ []) after)
 
-pub at_line : {A : Type 0} (start : SeatContent A) (first : Ways) (now : TalkingSeat A) (written : ℕ) (here : Ways) (said rest front after : List ℕ) → IsUnderway start first now written here (said ++ rest) → rest ≡ front ++ 10 ∷ after
-    → IsUnderway start first now written here (line (said ++ front) ++ after)
-at_line start first now written here said rest front after way is = subst (IsUnderway start first now written here) (split_line said rest front after is) way
+pub at_line : {A J : Type 0} {notes : NoteFacts A J} (laws : AreNoteLaws notes) (start : SeatContent A) (first : WaysWith J) (now : TalkingSeat A) (written : ℕ) (here : WaysWith J) (said rest front after : List ℕ) → IsUnderway notes start first now written here (said ++ rest) → rest ≡ front ++ 10 ∷ after
+    → IsUnderway notes start first now written here (line (said ++ front) ++ after)
+at_line {A} {J} {notes} laws start first now written here said rest front after way is = subst (IsUnderway notes start first now written here) (split_line said rest front after is) way
 
 -- no more bytes came
-pub reads_out : {A : Type 0} (start : SeatContent A) (first : Ways) (now : TalkingSeat A) (written : ℕ) (input input' output : Option (List ℕ)) (journal : JournalContent) (rest more : List ℕ)
-    → IsUnderway start first now written (record { input = input; output = output; journal = journal }) rest → Consumes input input' more → more ≡ []
-    → IsUnderway start first now written (record { input = input'; output = output; journal = journal }) rest
-reads_out start first now written input input' output journal rest more way read none =
-    subst (IsUnderway start first now written (record { input = input'; output = output; journal = journal })) (ap (λ (l : List ℕ). rest ++ l) none ∙ append-nil rest)
-    (reads_on start first now written input input' output journal rest more way read)
+pub reads_out : {A J : Type 0} {notes : NoteFacts A J} (laws : AreNoteLaws notes) (start : SeatContent A) (first : WaysWith J) (now : TalkingSeat A) (written : ℕ) (input input' output : Option (List ℕ)) (journal : J) (rest more : List ℕ)
+    → IsUnderway notes start first now written (record { input = input; output = output; journal = journal }) rest → Consumes input input' more → more ≡ []
+    → IsUnderway notes start first now written (record { input = input'; output = output; journal = journal }) rest
+reads_out {A} {J} {notes} laws start first now written input input' output journal rest more way read none =
+    subst (IsUnderway notes start first now written (record { input = input'; output = output; journal = journal })) (ap (λ (l : List ℕ). rest ++ l) none ∙ append-nil rest)
+    (reads_on laws start first now written input input' output journal rest more way read)
 
-pub last_ends : {A : Type 0} (start : SeatContent A) (first : Ways) (now : TalkingSeat A) (written : ℕ) (input output output' : Option (List ℕ)) (journal : JournalContent) (rest : List ℕ) (result : Result (Unit {0}) TalkFault)
-    → IsUnderway start first now written (record { input = input; output = output; journal = journal }) rest → NoByte 10 rest → IsAtEnd input → OnOk result (Appends output output' (last_answer rest))
+pub last_ends : {A J : Type 0} {notes : NoteFacts A J} (laws : AreNoteLaws notes) (start : SeatContent A) (first : WaysWith J) (now : TalkingSeat A) (written : ℕ) (input output output' : Option (List ℕ)) (journal : J) (rest : List ℕ) (result : Result (Unit {0}) TalkFault)
+    → IsUnderway notes start first now written (record { input = input; output = output; journal = journal }) rest → NoByte 10 rest → IsAtEnd input → OnOk result (Appends output output' (last_answer rest))
     → IfErr result (λ fault. (sent : ℕ) × IsCutOff output output' (last_answer rest) sent × (fault ≡ counted_fault (answer.Write sent) written))
-    → IsNotedTalk start now.seat first (record { input = input; output = output'; journal = journal }) result
-last_ends start first now written input output output' journal rest (Ok done) way none end out cut = ends_well start first now written input output output' journal rest way none end out
-last_ends start first now written input output output' journal rest (Err fault) way none end out (sent, cut, is) =
-    subst (λ (f : TalkFault). IsNotedTalk start now.seat first (record { input = input; output = output'; journal = journal }) (Err f)) (sym is)
-    (ends_cut start first now written sent input output output' journal rest way none end cut)
+    → IsTalkNotedBy notes start now.seat first (record { input = input; output = output'; journal = journal }) result
+last_ends {A} {J} {notes} laws start first now written input output output' journal rest (Ok done) way none end out cut = ends_well laws start first now written input output output' journal rest way none end out
+last_ends {A} {J} {notes} laws start first now written input output output' journal rest (Err fault) way none end out (sent, cut, is) =
+    subst (λ (f : TalkFault). IsTalkNotedBy notes start now.seat first (record { input = input; output = output'; journal = journal }) (Err f)) (sym is)
+    (ends_cut laws start first now written sent input output output' journal rest way none end cut)

@@ -1,6 +1,9 @@
 pub mod Journals
+pub mod Noting
+pub mod NoteLaws
 pub mod Answers
 pub mod Talks
 pub mod Receipts
 pub mod Shared
+pub mod Callers
 pub mod Inside

@@ -1,10 +1,11 @@
 -- A journal that several conversations share.
 use Rattle.std.specs.Prelude.{◌≡◌, ℕ, ◌≤◌, List, take, Option, Some, None}
+use Rattle.std.specs.Io.KnownBytes.{Appends}
 use mathlib.Core.List.{IsPrefix}
 use Rattle.tas_published.specs.declared.entry.Entry.{Entry}
 use Rattle.tas_desk.specs.Seats.{SeatContent}
 use Rattle.tas_journaling.specs.declared.journal.JournalFault.{JournalFault}
-use Rattle.tas_journaling.specs.Journals.{JournalContent, IsNoted, HasLess}
+use Rattle.tas_journaling.specs.Journals.{JournalContent, lines_from, IsNoted, HasLess}
 
 -- a journal that several conversations can share, of a history with this many entries: it has no fault and no line, and its first line is that of
 -- one of these entries, or the next
@@ -22,6 +23,12 @@ HasLinesAt head history journal (Some fault) = HasLess head history journal faul
 pub record HasBeginning {A : Type 0} (head : Option (List ℕ)) (first : ℕ) (history : List (Entry A)) (journal : JournalContent) : Type 0 where
   pub first_is : journal.first ≡ first
   pub lines : HasLinesAt head history journal journal.fault
+
+-- the head and the lines of a history's first entries, from the entry `first` on, were brought to the disk
+pub record HasSynced {A : Type 0} (kept : Option (List ℕ) → Type 0) (head : Option (List ℕ)) (first : ℕ) (history : List (Entry A)) (upto : ℕ) : Type 0 where
+  pub bytes : Option (List ℕ)
+  pub lines : Appends head bytes (lines_from first (take upto history))
+  pub disk : kept bytes
 
 -- what lies under the lock: the journal, and a seat that has seen all that it has
 pub record KeptContent (A : Type 0) : Type 0 where

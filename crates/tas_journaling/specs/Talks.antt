@@ -4,19 +4,22 @@ use Rattle.std.specs.Io.KnownBytes.{Appends, Consumes}
 use Rattle.tas_movie.specs.declared.edit.Edit.{Edit}
 use Rattle.tas_published.specs.declared.entry.Entry.{Entry}
 use Rattle.tas_desk.specs.Seats.{SeatContent, KeepsZone}
-use Rattle.tas_engines.specs.declared.fault.RunFault.TheVariants.{Write}
-use Rattle.tas_engines.specs.declared.fault.ToolFault.TheVariants.{Run}
 use Rattle.tas_seat.specs.Conversations.{TalkingSeat, talking}
 use Rattle.tas_seat.specs.Talk.{Exchange, IsExchange, TalkEnds, IsCarriedOut, lines_of, answers_of}
 use Rattle.tas_journaling.specs.declared.talking.TalkFault.{TalkFault}
 use Rattle.tas_journaling.specs.declared.talking.TalkFault.TheVariants.{Tool, Journal}
 use Rattle.tas_journaling.specs.Journals.{JournalContent, IsNoted, HasAll, HasLess}
+use Rattle.tas_journaling.specs.Noting.{NoteFacts, EndsBy, NotesEnd, alone_notes}
 
--- what a conversation reads from and writes to: the bytes that are left of its lines, those that the writer of its answers holds, and its journal
-pub record Ways : Type 0 where
+-- what a conversation reads from and writes to: the bytes that are left of its lines, those that the writer of its answers holds, and its journal, or
+-- what it knows of one
+pub record WaysWith (J : Type 0) : Type 0 where
   pub input : Option (List ℕ)
   pub output : Option (List ℕ)
-  pub journal : JournalContent
+  pub journal : J
+
+abbrev pub Ways : Type 0
+Ways = WaysWith JournalContent
 
 -- each line is answered as without a journal, from where the lines before it left the seat, which was then shown more of the history, or nothing
 unfoldable pub AreShown : {A : Type 0} → TalkingSeat A → List (Exchange A) → TalkingSeat A → Type 0
@@ -35,14 +38,11 @@ NotedEnds seat last rest told edits input output output' (Err (Journal fault)) =
 -- end: the lines of all that the seat has seen, also where an answer was cut off; where a line isn't answered, those of all that it had seen after
 -- the last answer; and where the journal failed, after these some first bytes of the next ones, all of these, or none, by the fault
 abbrev pub JournalEnds : {A : Type 0} → (head : Option (List ℕ)) → (answered last : List (Entry A)) → JournalContent → Result (Unit {0}) TalkFault → Type 0
-JournalEnds head answered last journal (Ok done) = HasAll head last journal
-JournalEnds head answered last journal (Err (Tool (Run (Write written)))) = HasAll head last journal
-JournalEnds head answered last journal (Err (Tool fault)) = IsNoted head last journal × (journal.upto ≡ length answered)
-JournalEnds head answered last journal (Err (Journal fault)) = HasLess head last journal fault × (journal.upto ≡ length answered)
+JournalEnds head answered last journal result =
+    EndsBy (HasAll head last journal) (IsNoted head last journal × (journal.upto ≡ length answered)) (λ fault. HasLess head last journal fault × (journal.upto ≡ length answered)) result
 
--- a conversation with a journal that had its head and the lines of all that the seat had seen. Without a draft it begins, and one that is open at
--- the end is lost
-pub record IsNotedTalk {A : Type 0} (start last : SeatContent A) (old new : Ways) (result : Result (Unit {0}) TalkFault) : Type 0 where
+-- a conversation whose answers wait for notes that covered its seat. Without a draft it begins, and one that is open at the end is lost
+pub record IsTalkNotedBy {A J : Type 0} (notes : NoteFacts A J) (start last : SeatContent A) (old new : WaysWith J) (result : Result (Unit {0}) TalkFault) : Type 0 where
   pub exchanges : List (Exchange A)
   pub seat : TalkingSeat A
   pub left_at : SeatContent A
@@ -52,4 +52,8 @@ pub record IsNotedTalk {A : Type 0} (start last : SeatContent A) (old new : Ways
   pub left : Consumes old.input new.input (lines_of exchanges ++ rest)
   pub ends : NotedEnds seat left_at rest (answers_of exchanges) more new.input old.output new.output result
   pub shown : KeepsZone left_at last
-  pub noted : (head : Option (List ℕ)) → HasAll head start.front old.journal → JournalEnds head seat.seat.front last.front new.journal result
+  pub noted : (head : Option (List ℕ)) → notes.covers head start old.journal → NotesEnd notes head seat.seat last new.journal result
+
+-- a conversation with a journal of its own, which had its head and the lines of all that the seat had seen
+abbrev pub IsNotedTalk : {A : Type 0} → (start last : SeatContent A) → (old new : Ways) → Result (Unit {0}) TalkFault → Type 0
+IsNotedTalk start last old new result = IsTalkNotedBy alone_notes start last old new result

@@ -8,7 +8,7 @@ ghost use Rattle.std.specs.Io.KnownBytes.{Appends};
 ghost use Rattle.tas_desk.specs.Seats.{KeepsZone};
 ghost use Rattle.tas_journal.specs.Text.{entry_lines, head_text};
 ghost use Rattle.tas_journaling.specs.Journals.{journaled, IsGivenPart};
-ghost use Rattle.tas_journaling.specs.Answers.{FallsShort, KeepsUp};
+ghost use Rattle.tas_journaling.specs.Noting.{FallsShort, KeepsUp};
 ghost use Rattle.tas_journaling.specs.Shared.{IsBlankOn};
 ghost use Rattle.tas_journaling.specs.declared.journal.JournalFault.TheVariants.{Memory};
 
@@ -126,7 +126,8 @@ impl<J: JournalFile> Journal<J> {
 
     /// Whether it has no fault and no line, and its first line is that of one of a history's first `at` entries, or the next.
     pub(crate) fn is_blank(&self, at: u64) -> bool
-        ensures { IsTrue result ↔ IsBlankOn at self.now }
+        ensures blank { IsTrue result ↔ IsBlankOn at self.now }
+        ensures kept { IsTrue result → J.kept self.now.bytes }
     {
         self.fault.is_none() && self.upto == self.first && self.upto <= at
     }

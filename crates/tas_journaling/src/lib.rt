@@ -4,15 +4,19 @@
 #![tactic(auto)]
 
 mod answering;
+mod callers;
 mod journal;
 mod laws;
+mod noting;
 mod receipts;
 mod shared_journal;
 mod talking;
 
 pub use answering::{AnswerFault, answer_noted};
+pub use callers::{CallFault, NotedCaller, converse_all_noted};
 pub use journal::{Journal, JournalFault, JournalFile};
 pub use laws::receipts_are_kept;
+pub use noting::{Noting, SharedNotes};
 pub use receipts::{JournalName, JournalReceipt, Known, ReceiptRule, Tally};
 pub use shared_journal::SharedJournal;
 pub use talking::{TalkFault, converse_noted};

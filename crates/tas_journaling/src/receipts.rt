@@ -15,8 +15,8 @@ use std::alloc::{AllocError, Global};
 use std::marker::{Brand, Model, PhantomData};
 use std::sync::Wait;
 
-/// Which journal it is that several conversations share: the table of its receipts, what its file had before the first line, and with which
-/// entry of the history that line is. Two shared journals have two names, so no receipt of one is taken for one of another. Whoever has a
+/// Which journal it is that several conversations share: the table of its receipts, what its file had before the first line, with which
+/// entry of the history that line is, and which seat it has. Two shared journals have two names, so no receipt of one is taken for one of another. Whoever has a
 /// [`Tally`] calls a function that is generic over the name, with [`Brand`] for it; that call picks the name.
 pub trait JournalName {
     ghost use Rattle.std.specs.Prelude.{ℕ, List, Option};
@@ -30,6 +30,9 @@ pub trait JournalName {
 
     /// The entry of the history whose line is the first.
     ghost first: { ℕ };
+
+    /// What is known of the journal's own seat: of its number, and how many edits it made.
+    ghost own: { ℕ → ℕ → Type 0 };
 }
 
 impl JournalName for Brand {
@@ -41,6 +44,8 @@ impl JournalName for Brand {
     ghost head = { None };
 
     ghost first = { 0 };
+
+    ghost own = { λ _ _. Unit {0} };
 }
 
 /// What a pass knows: whether it is the journal's own, and then how many entries of the history come before the journal's next line; and of how many somebody was told. No value of it is made.

@@ -15,7 +15,7 @@ ghost use Rattle.tas_desk.specs.Seats.{KeepsZone};
 ghost use Rattle.tas_journaling.specs.declared.journal.JournalFault.TheVariants.{Memory};
 ghost use Rattle.tas_journaling.specs.Journals.{HasAll};
 ghost use Rattle.tas_journaling.specs.Receipts.{own_at};
-ghost use Rattle.tas_journaling.specs.Shared.{HasBeginning, IsBlankOn};
+ghost use Rattle.tas_journaling.specs.Shared.{HasBeginning, HasSynced, IsBlankOn};
 
 use crate::receipts::{
     Cell, JournalName, JournalReceipt, ReceiptPass, Tally, give_receipt, take_receipt,
@@ -39,14 +39,16 @@ impl<N: Name, K: JournalName, J: JournalFile, A: Allocator> Model for KeptJourna
     ghost use Rattle.std.specs.Prelude.{◌≡◌};
     ghost use Rattle.crossbeam_utils.specs.Seq.{cell_view};
     ghost use Rattle.tas_journaling.specs.Receipts.{own_at};
-    ghost use Rattle.tas_journaling.specs.Shared.{HasBeginning, KeptContent};
+    ghost use Rattle.tas_journaling.specs.Shared.{HasBeginning, HasSynced, KeptContent};
 
     ghost Value = { KeptContent A };
 
     ghost view = { λ k. record { journal = k.journal; seat = k.seat } };
 
     ghost invariant = { λ k. HasBeginning K.head K.first k.seat.front k.journal
-        × (k.pass.table_id ≡ K.table) × (cell_view k.pass ≡ own_at k.journal.upto) };
+        × (k.pass.table_id ≡ K.table) × (cell_view k.pass ≡ own_at k.journal.upto)
+        × K.own k.seat.number k.seat.made
+        × HasSynced J.kept K.head K.first k.seat.front k.journal.upto };
 }
 
 impl<N: Name, K: JournalName, J: JournalFile, A: Allocator + Copy> KeptJournal<N, K, J, A> {
@@ -90,7 +92,8 @@ impl<N: Name, K: JournalName, J: JournalFile, A: Allocator + Copy> KeptJournal<N
     /// A receipt of all that it has.
     fn receipt<R: Wait>(&mut self, rt: &R, cell: &Cell) -> JournalReceipt<K>
         requires cell { cell.now.table.shared.table_id ≡ K.table }
-        ensures { result ≡ self.new.journal.upto }
+        ensures told { result ≡ self.new.journal.upto }
+        ensures first { K.first ≤ result }
     {
         let upto = self.journal.upto();
         give_receipt::<K, R>(rt, cell, &mut self.pass, upto)
@@ -148,6 +151,7 @@ impl<N: Name, K: JournalName, J: JournalFile, A: Allocator + Copy> SharedJournal
         requires name { tally ≡ K.table }
         requires head { journal.bytes ≡ K.head }
         requires first { journal.first ≡ K.first }
+        requires own { K.own seat.number seat.made }
         ensures other { KeepsZone other.old other.new }
         // A journal is shared exactly where it has no fault and no line, and its first line is that of an entry of the
         // history that both seats see then, or the next.
@@ -181,7 +185,11 @@ impl<N: Name, K: JournalName, J: JournalFile, A: Allocator + Copy> SharedJournal
     }
 
     /// A receipt of all that the journal has now, for a conversation that begins.
-    pub fn receipt<R: Wait>(&self, rt: &R) -> JournalReceipt<K> {
+    pub fn receipt<R: Wait>(&self, rt: &R) -> JournalReceipt<K>
+        // The entries before the first line are counted, too.
+        // Refused: none, see `Journal::begin`.
+        ensures first { K.first ≤ result }
+    {
         self.kept.lock(rt).receipt(rt, &self.cell)
     }
 
@@ -228,6 +236,12 @@ impl<N: Name, K: JournalName, J: JournalFile, A: Allocator + Copy> SharedJournal
         // Refused: receipts_are_not_compared.
         ensures journal { HasBeginning K.head K.first result.1.front result.0 }
         ensures receipts { All (λ told. told ≤ result.0.upto) receipts.items }
+        // The head and the lines of all these entries were brought to the disk, also where the journal failed later.
+        // Refused: none, see `Journal::note`.
+        ensures synced { HasSynced J.kept K.head K.first result.1.front result.0.upto }
+        // What was known of the seat that was given holds of the one that comes back.
+        // Refused: none, no other seat of this desk is there to be returned.
+        ensures own { K.own result.1.number result.1.made }
     {
         let SharedJournal { cell, kept } = self;
         let KeptJournal {

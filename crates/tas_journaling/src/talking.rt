@@ -14,11 +14,12 @@ ghost use Rattle.tas_language.specs.Held.{HoldsLine};
 ghost use Rattle.tas_seat.specs.Conversations.{talking};
 ghost use Rattle.tas_seat.specs.Talk.{last_answer, most_counted};
 ghost use Rattle.tas_journaling.specs.declared.answering.AnswerFault.TheVariants.{Write as AnswerCut};
-ghost use Rattle.tas_journaling.specs.Talks.{Ways, IsNotedTalk};
+ghost use Rattle.tas_journaling.specs.Talks.{WaysWith, IsTalkNotedBy};
 ghost use Rattle.tas_journaling.specs.Inside.{counted_fault, IsNotedTurn, IsPartTurn, IsUnderway};
 
+use crate::JournalFault;
 use crate::answering::{AnswerFault, answer_noted, hand_out};
-use crate::{Journal, JournalFault, JournalFile};
+use crate::noting::Noting;
 use byte_text::split_once;
 use std::alloc::Allocator;
 use std::io::{Read, Write};
@@ -74,21 +75,21 @@ fn answer_unknown<W: Write>(output: &mut W, before: usize) -> Result<Option<usiz
 
 /// Answers the line that is held, and returns how many bytes of answers have gone out then; `None` where it asks for the
 /// end.
-fn answer_line<N: Name, C: CloseOnDrop, A: Allocator + Copy, R: Wait, W: Write, J: JournalFile>(
+fn answer_line<N: Name, C: CloseOnDrop, A: Allocator + Copy, R: Wait, W: Write, H: Noting<N, A>>(
     rt: &R,
     alloc: A,
     desk: &Desk<N, C, A>,
     seat: &mut Seat<N, A>,
     draft: &mut Option<Draft<A>>,
-    journal: &mut Journal<J>,
+    journal: &mut H,
     written: usize,
     line: &Line<A>,
     output: &mut W,
 ) -> Result<Option<usize>, TalkFault>
-    ensures first { journal.new.first ≡ journal.old.first }
+    ensures first { H.first journal.new ≡ H.first journal.old }
     ensures turn { (said : List ℕ) → HoldsLine said line.now.bytes.items line.now.long
         → NoByte 10 said
-        → IsNotedTurn (talking seat.old draft.old) (talking seat.new draft.new)
+        → IsNotedTurn H.facts (talking seat.old draft.old) (talking seat.new draft.new)
         journal.old journal.new said written
         (W.contents output.old) (W.contents output.new) result }
 {
@@ -104,26 +105,26 @@ fn answer_line<N: Name, C: CloseOnDrop, A: Allocator + Copy, R: Wait, W: Write, 
 
 /// Answers each line that ends in a part of the input, the first of which may have begun before it, and holds what comes
 /// after the last newline; `None` where a line asks for the end.
-fn answer_part<N: Name, C: CloseOnDrop, A: Allocator + Copy, R: Wait, W: Write, J: JournalFile>(
+fn answer_part<N: Name, C: CloseOnDrop, A: Allocator + Copy, R: Wait, W: Write, H: Noting<N, A>>(
     rt: &R,
     alloc: A,
     desk: &Desk<N, C, A>,
     seat: &mut Seat<N, A>,
     draft: &mut Option<Draft<A>>,
-    journal: &mut Journal<J>,
+    journal: &mut H,
     before: usize,
     line: &mut Line<A>,
     part: &[u8],
     output: &mut W,
 ) -> Result<Option<usize>, TalkFault>
-    ensures first { journal.new.first ≡ journal.old.first }
-    ensures turn { (start : SeatContent A) → (first : Ways) → (input : Option (List ℕ))
+    ensures first { H.first journal.new ≡ H.first journal.old }
+    ensures turn { (start : SeatContent A) → (first : WaysWith H) → (input : Option (List ℕ))
         → (said : List ℕ) → HoldsLine said line.old.bytes.items line.old.long
         → NoByte 10 said
-        → IsUnderway start first (talking seat.old draft.old) before
+        → IsUnderway H.facts start first (talking seat.old draft.old) before
         (record { input = input; output = W.contents output.old; journal = journal.old })
         (said ++ part.now)
-        → IsPartTurn start first (talking seat.new draft.new)
+        → IsPartTurn H.facts start first (talking seat.new draft.new)
         (record { input = input; output = W.contents output.new; journal = journal.new })
         line.new.bytes.items line.new.long result }
 {
@@ -169,8 +170,8 @@ fn answer_last<A: Allocator, W: Write>(
     }
 }
 
-/// Holds a seat's conversation as [`converse`](tas_seat::converse) does, but an answer's first byte goes out only once the journal has all
-/// that the seat has seen of the history, its own edits among it, and was brought to the disk ([`answer_noted`](crate::answer_noted)).
+/// Holds a seat's conversation as [`converse`](tas_seat::converse) does, but an answer's first byte goes out only once the journal has the
+/// seat's edits, and was brought to the disk ([`answer_noted`](crate::answer_noted)).
 ///
 /// Faults: those of `converse`; and `Journal`, after a line that is carried out, of whose answer nothing is written then.
 pub fn converse_noted<
@@ -180,13 +181,13 @@ pub fn converse_noted<
     T: Wait,
     R: Read,
     W: Write,
-    J: JournalFile,
+    H: Noting<N, A>,
 >(
     rt: &T,
     alloc: A,
     desk: &Desk<N, C, A>,
     seat: &mut Seat<N, A>,
-    journal: &mut Journal<J>,
+    journal: &mut H,
     input: &mut R,
     output: &mut W,
 ) -> Result<(), TalkFault>
@@ -194,12 +195,13 @@ pub fn converse_noted<
     // without, or where the journal fails. A seat may have seen more of the history after each answer.
     // Refused: noted_conversation_goes_on_after_quit, noted_conversation_forgets_its_draft,
     // noted_bytes_are_counted_from_the_last_answer.
-    // Where the journal's file had its head and the lines of all that the seat had seen, it has those of all that the seat has
-    // seen in the end: each once, in order, and nothing else. Where a line isn't answered, it has those of all that the seat
-    // had seen after the last answer; where the journal failed, after these perhaps some first bytes of the next ones. As the
-    // writers of answers and journal may fail at each byte, so it is at each moment.
+    // Where the file of a journal of one caller had its head and the lines of all that the seat had seen, it has those of all
+    // that the seat has seen in the end: each once, in order, and nothing else. Where a line isn't answered, it has those of
+    // all that the seat had seen after the last answer; where the journal failed, after these perhaps some first bytes of
+    // the next ones. As the writers of answers and journal may fail at each byte, so it is at each moment. A journal that is
+    // shared and had the seat's edits has those of all lines whose answers are out, whole or in part.
     // Refused: noted_line_is_answered_without_its_journal, conversation_goes_on_after_a_failed_journal.
-    ensures talk { IsNotedTalk seat.old seat.new
+    ensures talk { IsTalkNotedBy H.facts seat.old seat.new
         (record {
           input = R.remaining input.old;
           output = W.contents output.old;
@@ -212,7 +214,7 @@ pub fn converse_noted<
         }) result }
     // The first line of the journal stays that of the same entry.
     // Refused: none, see `Journal::note`.
-    ensures first { journal.new.first ≡ journal.old.first }
+    ensures first { H.first journal.new ≡ H.first journal.old }
 {
     let Ok(mut line) = Line::new(alloc) else {
         return Err(TalkFault::Tool(ToolFault::Run(RunFault::Memory)));

@@ -1,6 +1,6 @@
 //! Journals that aren't shared, and one that two conversations share and that fails, or that is refused memory. The texts are by hand.
 
-ghost use Rattle.std.specs.Prelude.{◌≡◌, ◌≤◌};
+ghost use Rattle.std.specs.Prelude.{◌≡◌, ◌≤◌, ℕ};
 ghost use Rattle.tas_desk.specs.Seats.{name_of};
 
 use crate::checks::{check_same, check_that, expect_ok, expect_some};
@@ -69,6 +69,7 @@ fn try_to_share<N: Name, K: JournalName, J: JournalFile, C: CloseOnDrop, R: Wait
     requires table { tally ≡ K.table }
     requires head { journal.bytes ≡ K.head }
     requires first { journal.first ≡ K.first }
+    requires own { (number : ℕ) → (made : ℕ) → K.own number made }
 {
     let (own, other) = seats;
     match SharedJournal::<N, K, J>::new(rt, desk, tally, journal, own, other) {
@@ -227,6 +228,7 @@ fn fail_shared<N: Name, K: JournalName, R: Wait + Abort>(
     requires table { tally ≡ K.table }
     requires head { journal.bytes ≡ K.head }
     requires first { journal.first ≡ K.first }
+    requires own { (number : ℕ) → (made : ℕ) → K.own number made }
 {
     let (desk, mut seats) = expect_ok(rt, Desk::<N, &R>::open(rt, alloc, unopened));
     let own = expect_some(rt, seats.pop());
@@ -326,6 +328,7 @@ fn refuse_shared<'a, N: Name, K: JournalName, R: Wait + Abort>(
     requires table { tally ≡ K.table }
     requires head { journal.bytes ≡ K.head }
     requires first { journal.first ≡ K.first }
+    requires own { (number : ℕ) → (made : ℕ) → K.own number made }
     requires growth { 1 ≤ growth }
 {
     let opened = Desk::<N, &R, &Refusing<Global>>::open(rt, heap, unopened);

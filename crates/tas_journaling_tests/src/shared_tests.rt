@@ -1,6 +1,6 @@
 //! A journal that two threads share.
 
-ghost use Rattle.std.specs.Prelude.{◌≡◌};
+ghost use Rattle.std.specs.Prelude.{◌≡◌, ℕ};
 ghost use Rattle.tas_desk.specs.Seats.{name_of};
 
 use crate::checks::{check_same, check_that, expect_ok, expect_some};
@@ -111,6 +111,7 @@ fn share_on<N: Name, K: JournalName, J: JournalFile, C: CloseOnDrop, R: Wait + A
     requires table { tally ≡ K.table }
     requires head { journal.bytes ≡ K.head }
     requires first { journal.first ≡ K.first }
+    requires own { K.own own.number own.made }
 {
     let made = SharedJournal::<N, K, J>::new(rt, desk, tally, journal, own, other).ok();
     expect_some(rt, made)
@@ -129,6 +130,7 @@ fn share<N: Name + Send + Sync, K: JournalName + Send + Sync, R: Wait + Threads 
     requires table { tally ≡ K.table }
     requires head { journal.bytes ≡ K.head }
     requires first { journal.first ≡ K.first }
+    requires own { (number : ℕ) → (made : ℕ) → K.own number made }
 {
     let (desk, mut seats) = expect_ok(rt, Desk::<N, &R>::open(rt, alloc, unopened));
     let own = expect_some(rt, seats.pop());

@@ -1,34 +1,35 @@
-use Rattle.std.proofs.Common.{refl, subst, List, ℕ, ap, ◌∙◌, length}
+use Rattle.std.proofs.Common.{refl, subst, List, ℕ, Bool, ap, ◌∙◌, length}
 use Rattle.std.specs.Io.KnownBytes.{Appends}
 use Rattle.byte_text.specs.CutOff.{IsCutOff}
 use Rattle.tas_seat.specs.Conversations.{talking}
-use Rattle.tas_journaling.proofs.NoteLemmas.{falls_short_from, keeps_up_from}
+use Rattle.tas_journaling.specs.Noting.{may_edit}
+use Rattle.tas_journaling.proofs.NoteLemmas.{keeps_up_from}
 use Rattle.tas_journaling.proofs.answering.answer_noted.Goals as goal
 
-pub returns-in-Err-note-clause-answer : goal.returns-in-Err-note-clause-answer
-returns-in-Err-note-clause-answer g c =
+pub returns-in-Err-note_answer-clause-answer : goal.returns-in-Err-note_answer-clause-answer
+returns-in-Err-note_answer-clause-answer g c =
     let answered = rw c.in-Some.is at c.in-Ok.ensures.answer in (
       c.in-Some.bytes.items,
-      record { seat = c.answer_talk.new.seat; answered = answered; shown = c.in-Err-note.ensures.seat },
+      record { seat = c.answer_talk.new.seat; answered = answered; shown = c.in-Err-note_answer.ensures.seat },
       refl,
-      falls_short_from (talking c.args.seat.now c.args.draft.now) (talking c.answer_talk.new.seat c.answer_talk.new.draft) c.note.new.seat c.args.request c.in-Some.bytes.items c.args.journal.now c.note.new.self c.in-Err-note.fault answered c.in-Err-note.ensures.fault,
+      g.met.H.Noting.laws.short_on (talking c.args.seat.now c.args.draft.now) (talking c.answer_talk.new.seat c.answer_talk.new.draft) c.note_answer.new.seat c.args.request c.in-Some.bytes.items c.args.journal.now c.note_answer.new.self c.in-Err-note_answer.fault answered c.in-Err-note_answer.ensures.fault,
     )
 
 pub returns-clause-answer : goal.returns-clause-answer
 returns-clause-answer g c =
     let answered = rw c.in-Some.is at c.in-Ok.ensures.answer in (
       c.in-Some.bytes.items,
-      record { seat = c.answer_talk.new.seat; answered = answered; shown = c.in_default-note.ensures.seat },
+      record { seat = c.answer_talk.new.seat; answered = answered; shown = c.in_default-note_answer.ensures.seat },
       subst (λ (l : List ℕ). IsCutOff (g.W.Write.contents c.args.output.now) (g.W.Write.contents c.hand_out.new.output) l c.in-Err-hand_out.sent) c.as_slice.ensures.value c.in-Err-hand_out.ensures.cut,
-      keeps_up_from (talking c.args.seat.now c.args.draft.now) (talking c.answer_talk.new.seat c.answer_talk.new.draft) c.note.new.seat c.args.request c.in-Some.bytes.items c.args.journal.now c.note.new.self answered c.in_default-note.ensures.done,
+      keeps_up_from g.met.H.Noting.laws (talking c.args.seat.now c.args.draft.now) (talking c.answer_talk.new.seat c.answer_talk.new.draft) c.note_answer.new.seat c.args.request c.in-Some.bytes.items c.may_edit-edits.result c.args.journal.now c.note_answer.new.self answered (c.may_edit-edits.ensures ∙ ap (λ (b : Bool). may_edit b c.args.request) c.is_some.ensures) c.in_default-note_answer.ensures.done,
     )
 
 pub returns-in-Ok-hand_out-clause-answer : goal.returns-in-Ok-hand_out-clause-answer
 returns-in-Ok-hand_out-clause-answer g c =
     let answered = rw c.in-Some.is at c.in-Ok.ensures.answer in (
       c.in-Some.bytes.items,
-      record { seat = c.answer_talk.new.seat; answered = answered; shown = c.in_default-note.ensures.seat },
+      record { seat = c.answer_talk.new.seat; answered = answered; shown = c.in_default-note_answer.ensures.seat },
       subst (λ (l : List ℕ). Appends (g.W.Write.contents c.args.output.now) (g.W.Write.contents c.hand_out.new.output) l) c.as_slice.ensures.value c.in-Ok-hand_out.ensures.out,
-      keeps_up_from (talking c.args.seat.now c.args.draft.now) (talking c.answer_talk.new.seat c.answer_talk.new.draft) c.note.new.seat c.args.request c.in-Some.bytes.items c.args.journal.now c.note.new.self answered c.in_default-note.ensures.done,
+      keeps_up_from g.met.H.Noting.laws (talking c.args.seat.now c.args.draft.now) (talking c.answer_talk.new.seat c.answer_talk.new.draft) c.note_answer.new.seat c.args.request c.in-Some.bytes.items c.may_edit-edits.result c.args.journal.now c.note_answer.new.self answered (c.may_edit-edits.ensures ∙ ap (λ (b : Bool). may_edit b c.args.request) c.is_some.ensures) c.in_default-note_answer.ensures.done,
       c.in-Ok-hand_out.ensures.count ∙ ap (λ (l : List ℕ). length l) c.as_slice.ensures.value,
     )

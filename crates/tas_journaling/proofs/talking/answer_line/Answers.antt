@@ -7,18 +7,18 @@ use Rattle.tas_journaling.proofs.talking.answer_line.Goals as goal
 
 pub returns-in_default-clause-turn : goal.returns-in_default-clause-turn
 returns-in_default-clause-turn g c = λ said holds none.
-    unknown_answered (talking c.args.seat.now c.args.draft.now) c.args.journal.now said c.args.written _ _ c.answer_unknown.result none (c.in_default.ensures said holds) c.answer_unknown.ensures.out c.answer_unknown.ensures.count
+    unknown_answered g.met.H.Noting.laws (talking c.args.seat.now c.args.draft.now) c.args.journal.now said c.args.written _ _ c.answer_unknown.result none (c.in_default.ensures said holds) c.answer_unknown.ensures.out c.answer_unknown.ensures.count
     c.answer_unknown.ensures.fault
 
 pub returns-in-Ok-Some-clause-turn : goal.returns-in-Ok-Some-clause-turn
 returns-in-Ok-Some-clause-turn g c = λ said holds none.
-    known_turn (talking c.args.seat.now c.args.draft.now) (talking c.answer_noted.new.seat c.answer_noted.new.draft) c.args.journal.now c.answer_noted.new.journal said c.args.written c.in-Ok-Some.size c.saturating_add.result _ _ c.in-Some.request none (c.in-Some.ensures said holds)
+    known_turn g.met.H.Noting.laws (talking c.args.seat.now c.args.draft.now) (talking c.answer_noted.new.seat c.answer_noted.new.draft) c.args.journal.now c.answer_noted.new.journal said c.args.written c.in-Ok-Some.size c.saturating_add.result _ _ c.in-Some.request none (c.in-Some.ensures said holds)
     (rw c.in-Ok-Some.field-0-is at c.in-Ok-Some.ensures.answer) c.saturating_add.ensures
 
 pub returns-in-Err-clause-turn : goal.returns-in-Err-clause-turn
 returns-in-Err-clause-turn g c = λ said holds none.
     subst
-    (λ (f : TalkFault). IsNotedTurn (talking c.args.seat.now c.args.draft.now) (talking c.answer_noted.new.seat c.answer_noted.new.draft) c.args.journal.now c.answer_noted.new.journal said c.args.written (g.W.Write.contents c.args.output.now)
+    (λ (f : TalkFault). IsNotedTurn g.H.Noting.facts (talking c.args.seat.now c.args.draft.now) (talking c.answer_noted.new.seat c.answer_noted.new.draft) c.args.journal.now c.answer_noted.new.journal said c.args.written (g.W.Write.contents c.args.output.now)
     (g.W.Write.contents c.answer_noted.new.output) (Err f)) (sym c.counted.ensures)
-    (known_broken (talking c.args.seat.now c.args.draft.now) (talking c.answer_noted.new.seat c.answer_noted.new.draft) c.args.journal.now c.answer_noted.new.journal said c.args.written _ _ c.in-Some.request c.in-Err.fault none (c.in-Some.ensures said holds) c.in-Err.ensures.answer
+    (known_broken g.met.H.Noting.laws (talking c.args.seat.now c.args.draft.now) (talking c.answer_noted.new.seat c.answer_noted.new.draft) c.args.journal.now c.answer_noted.new.journal said c.args.written _ _ c.in-Some.request c.in-Err.fault none (c.in-Some.ensures said holds) c.in-Err.ensures.answer
     c.in-Err.ensures.entry)

@@ -7,4 +7,4 @@ abbrev pub ghosts-refuse_shared-N-Name : goal.ghosts-refuse_shared-N-Name
 ghosts-refuse_shared-N-Name g a = record { registry = a.unopened.registry }
 
 abbrev pub ghosts-refuse_shared-K-JournalName : goal.ghosts-refuse_shared-K-JournalName
-ghosts-refuse_shared-K-JournalName g a = record { table = a.tally; head = a.journal.bytes; first = a.journal.first }
+ghosts-refuse_shared-K-JournalName g a = record { table = a.tally; head = a.journal.bytes; first = a.journal.first; own = λ number made. Unit {0} }

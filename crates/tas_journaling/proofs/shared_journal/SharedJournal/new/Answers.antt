@@ -1,11 +1,15 @@
 use Rattle.std.proofs.Common.{◌∙◌, ap}
 use Rattle.tas_journaling.specs.Receipts.{own_at}
-use Rattle.tas_journaling.proofs.SharedLemmas.{begins_blank}
+use Rattle.tas_journaling.proofs.SharedLemmas.{begins_blank, own_as, synced_blank}
 use Rattle.tas_journaling.proofs.shared_journal.SharedJournal.new.Goals as goal
 
 pub invariant_of-new : goal.invariant_of-new
-invariant_of-new g c = (
-  begins_blank g.K.JournalName.head g.K.JournalName.first _ c.meet-at.new.one.front c.args.journal c.requires.head c.requires.first (c.is_blank.ensures.0 c.if-not-is_blank.false) c.meet-at.ensures.at,
-  c.give_receipt.ensures.own,
-  c.give_receipt.ensures.keeps ∙ ap own_at c.upto.ensures,
-)
+invariant_of-new g c =
+    let blank = c.is_blank.ensures.blank.0 c.if-not-is_blank.false in
+    let begins = begins_blank g.K.JournalName.head g.K.JournalName.first _ c.meet-at.new.one.front c.args.journal c.requires.head c.requires.first blank c.meet-at.ensures.at in (
+      begins,
+      c.give_receipt.ensures.own,
+      c.give_receipt.ensures.keeps ∙ ap own_at c.upto.ensures,
+      own_as g.K.JournalName.own c.args.seat c.meet-at.new.one c.meet-at.ensures.one c.requires.own,
+      synced_blank g.J.JournalFile.kept g.K.JournalName.head g.K.JournalName.first c.meet-at.new.one.front c.args.journal begins blank.whole (c.is_blank.ensures.kept c.if-not-is_blank.false),
+    )
