@@ -23,9 +23,9 @@ use Rattle.tas_engines.specs.declared.fault.RunFault.{RunFault}
 use Rattle.tas_engines.specs.declared.fault.RunFault.TheVariants.{Write, Size, Text, NoFrame, Range, Halted, HaltedFrame, Script, Place, Long, NoPlace, NoEntry, Foreign, Memory}
 use Rattle.tas_engines.specs.declared.fault.SeatFault.{SeatFault}
 use Rattle.tas_seat.specs.Lines.{DoorFacts, WasHeld}
-use Rattle.tas_tool.specs.Desks.{edits_before, IsBlankZone, IsSeatOf, IsDeskHistory, IsUnwritten}
+use Rattle.tas_tool.specs.Desks.{edits_before, IsBlankZone, IsSeatOf, IsHistoryOf, IsDeskHistory, IsUnwritten}
 use Rattle.tas_tool.specs.Inside.TwoEdits.{HoldsMovie, IsMakingFault}
-use Rattle.tas_tool.specs.Inside.Holding.{AreNumbered, HaveMadeNone, HaveBlankZones, AreFresh, HaveMovie, IsUnmade, IsHeldIn, HoldsAll, HasRoom}
+use Rattle.tas_tool.specs.Inside.Holding.{AreNumbered, HaveMadeNone, HaveBlankZones, AreFresh, HaveMovie, IsUnmade, IsHeldIn, AreHeldIn, HoldsAll, HasRoom}
 use Rattle.tas_seat.proofs.HeldLemmas.{held_seen, held_in_history}
 
 -- ---- lists
@@ -38,7 +38,7 @@ whole_back {X} xs rest out n same is = is ∙ ap (λ (k : ℕ). take k (xs ++ re
     front [] zs = refl
     front (y ∷ ys) zs = ap (λ (l : List X). y ∷ l) (front ys zs)
 
-take_prefix : {X : Type 0} (n : ℕ) (xs ys : List X) → IsPrefix xs ys → n ≤ length xs → take n ys ≡ take n xs
+pub take_prefix : {X : Type 0} (n : ℕ) (xs ys : List X) → IsPrefix xs ys → n ≤ length xs → take n ys ≡ take n xs
 take_prefix {X} n xs ys p le = ap (λ (l : List X). take n l) (sym p.1) ∙ take-append-le n xs p.0 le
 
 prefix_longer : {X : Type 0} (xs ys : List X) → IsPrefix xs ys → length xs ≤ length ys
@@ -70,7 +70,7 @@ there (x ∷ xs) (z ∷ ys) zero y same is = (x, refl)
 there (x ∷ xs) (z ∷ ys) (suc k) y same is = there xs ys k y (omega (arith, same)) is
 
 -- what was done to the item at a place
-done_at : {X : Type 0} (R : X → X → Type 0) (xs ys : List X) → length ys ≡ length xs → ((k : ℕ) (d : X) → k < length xs → R (get_or xs k d) (get_or ys k d))
+pub done_at : {X : Type 0} (R : X → X → Type 0) (xs ys : List X) → length ys ≡ length xs → ((k : ℕ) (d : X) → k < length xs → R (get_or xs k d) (get_or ys k d))
     → (k : ℕ) (y : X) → slice_get ys k ≡ Some y → (x : X) × (slice_get xs k ≡ Some x) × R x y
 done_at {X} R xs ys same done k y is =
     let before = there xs ys k y (sym same) is in
@@ -193,49 +193,52 @@ nobody_else n log ss whole settled count = had_named n log ss whole (omega (arit
 
 -- ---- conversations
 
--- what a caller's conversation leaves of the caller
-abbrev Leaves : {A D X : Type 0} → DoorFacts D → (X → D) → (X → SeatContent A) → (X → Result (Unit {0}) SeatFault) → List X → List X → Type 0
-Leaves {X = X} facts door seat end old new = (k : ℕ) (d : X) → k < length old → WasHeld facts (door (get_or old k d)) (door (get_or new k d)) (seat (get_or old k d)) (seat (get_or new k d)) (end (get_or new k d))
+-- what a caller's conversation leaves of the caller, as `Held` says
+abbrev pub Leaves : {A D E X : Type 0} → (D → D → SeatContent A → SeatContent A → E → Type 0) → (X → D) → (X → SeatContent A) → (X → E) → List X → List X → Type 0
+Leaves {X = X} Held door seat end old new = (k : ℕ) (d : X) → k < length old → Held (door (get_or old k d)) (door (get_or new k d)) (seat (get_or old k d)) (seat (get_or new k d)) (end (get_or new k d))
 
 -- each caller's conversation was held, by index and by what stands there
-pub each_held : {A D X : Type 0} (facts : DoorFacts D) (door : X → D) (seat : X → SeatContent A) (end : X → Result (Unit {0}) SeatFault) (old new : List X) → length new ≡ length old → Leaves facts door seat end old new
-    → (k : ℕ) (p q : D) (start last : SeatContent A) (e : Result (Unit {0}) SeatFault) → slice_get (map door old) k ≡ Some p → slice_get (map door new) k ≡ Some q → slice_get (map seat old) k ≡ Some start → slice_get (map seat new) k ≡ Some last
-    → slice_get (map end new) k ≡ Some e → WasHeld facts p q start last e
-each_held facts door seat end [] new same held k p q start last e is is' at at' ended = absurd (cc is)
-each_held facts door seat end (x ∷ old) [] same held k p q start last e is is' at at' ended = absurd (omega (arith, same))
-each_held {A} {D} facts door seat end (x ∷ old) (y ∷ new) same held zero p q start last e is is' at at' ended =
-    let here : WasHeld facts (door x) (door y) (seat x) (seat y) (end y) = held 0 x (omega arith) in
-    subst (λ (v : D). WasHeld facts v q start last e) (same_Some (door x) p is)
-    (subst (λ (v : D). WasHeld facts (door x) v start last e) (same_Some (door y) q is')
-    (subst (λ (v : SeatContent A). WasHeld facts (door x) (door y) v last e) (same_Some (seat x) start at)
-    (subst (λ (v : SeatContent A). WasHeld facts (door x) (door y) (seat x) v e) (same_Some (seat y) last at')
-    (subst (λ (v : Result (Unit {0}) SeatFault). WasHeld facts (door x) (door y) (seat x) (seat y) v) (same_Some (end y) e ended) here))))
-each_held {A} {D} {X} facts door seat end (x ∷ old) (y ∷ new) same held (suc k) p q start last e is is' at at' ended =
-    each_held facts door seat end old new (omega (arith, same)) (λ (j : ℕ) (d : X) lt. held (suc j) d (omega (arith, lt))) k p q start last e is is' at at' ended
+pub each_held : {A D E X : Type 0} (Held : D → D → SeatContent A → SeatContent A → E → Type 0) (door : X → D) (seat : X → SeatContent A) (end : X → E) (old new : List X) → length new ≡ length old → Leaves Held door seat end old new
+    → (k : ℕ) (p q : D) (start last : SeatContent A) (e : E) → slice_get (map door old) k ≡ Some p → slice_get (map door new) k ≡ Some q → slice_get (map seat old) k ≡ Some start → slice_get (map seat new) k ≡ Some last
+    → slice_get (map end new) k ≡ Some e → Held p q start last e
+each_held Held door seat end [] new same held k p q start last e is is' at at' ended = absurd (cc is)
+each_held Held door seat end (x ∷ old) [] same held k p q start last e is is' at at' ended = absurd (omega (arith, same))
+each_held {A} {D} {E} Held door seat end (x ∷ old) (y ∷ new) same held zero p q start last e is is' at at' ended =
+    let here : Held (door x) (door y) (seat x) (seat y) (end y) = held 0 x (omega arith) in
+    subst (λ (v : D). Held v q start last e) (same_Some (door x) p is)
+    (subst (λ (v : D). Held (door x) v start last e) (same_Some (door y) q is')
+    (subst (λ (v : SeatContent A). Held (door x) (door y) v last e) (same_Some (seat x) start at)
+    (subst (λ (v : SeatContent A). Held (door x) (door y) (seat x) v e) (same_Some (seat y) last at')
+    (subst (λ (v : E). Held (door x) (door y) (seat x) (seat y) v) (same_Some (end y) e ended) here))))
+each_held {A} {D} {E} {X} Held door seat end (x ∷ old) (y ∷ new) same held (suc k) p q start last e is is' at at' ended =
+    each_held Held door seat end old new (omega (arith, same)) (λ (j : ℕ) (d : X) lt. held (suc j) d (omega (arith, lt))) k p q start last e is is' at at' ended
+
+-- what is done of a conversation's seat
+abbrev pub KeepsNumber : {A D E : Type 0} → (D → D → SeatContent A → SeatContent A → E → Type 0) → Type 0
+KeepsNumber {A} {D} {E} Held = (p q : D) (start last : SeatContent A) (e : E) → Held p q start last e → last.number ≡ start.number
 
 -- the seats keep their numbers
-pub still_numbered : {A D X : Type 0} (facts : DoorFacts D) (door : X → D) (seat : X → SeatContent A) (end : X → Result (Unit {0}) SeatFault) (old new : List X) → length new ≡ length old → Leaves facts door seat end old new
-    → AreNumbered (map seat old) → AreNumbered (map seat new)
-still_numbered {A} {D} {X} facts door seat end old new same held are k last is =
+pub still_numbered : {A D E X : Type 0} (Held : D → D → SeatContent A → SeatContent A → E → Type 0) (keeps : KeepsNumber Held) (door : X → D) (seat : X → SeatContent A) (end : X → E) (old new : List X) → length new ≡ length old
+    → Leaves Held door seat end old new → AreNumbered (map seat old) → AreNumbered (map seat new)
+still_numbered {A} {D} {E} {X} Held keeps door seat end old new same held are k last is =
     let before = there (map seat old) (map seat new) k last (length-map old seat ∙ sym same ∙ sym (length-map new seat)) is in
     let p = there (map door old) (map seat new) k last (length-map old door ∙ sym same ∙ sym (length-map new seat)) is in
     let q = there (map door new) (map seat new) k last (length-map new door ∙ sym (length-map new seat)) is in
     let e = there (map end new) (map seat new) k last (length-map new end ∙ sym (length-map new seat)) is in
-    let held' = each_held facts door seat end old new same held k p.0 q.0 before.0 last e.0 p.1 q.1 before.1 is e.1 in
-    (held_seen facts p.0 q.0 before.0 last e.0 held').0 ∙ are k before.0 before.1
+    let held' = each_held Held door seat end old new same held k p.0 q.0 before.0 last e.0 p.1 q.1 before.1 is e.1 in
+    keeps p.0 q.0 before.0 last e.0 held' ∙ are k before.0 before.1
 
 -- the desk that is closed shows all conversations
-holds_all : {A D X : Type 0} (n : ℕ) (facts : DoorFacts D) (door : X → D) (seat : X → SeatContent A) (end : X → Result (Unit {0}) SeatFault) (old new : List X) (log : List (Entry A)) → length new ≡ length old → length old ≡ n
-    → Leaves facts door seat end old new → IsWhole n (map seat new) → IsLegal log → All (IsSettled log) (map seat new) → length log ≡ made_by (map seat new)
-    → HoldsAll facts (map door old) (map door new) (map seat old) (map end new) log
-holds_all {A} {D} {X} n facts door seat end old new log same long held whole legal settled count = record {
+pub holds_all : {A D E X : Type 0} (Held : D → D → SeatContent A → SeatContent A → E → Type 0) (held_in : D → D → SeatContent A → E → Type 0) (door : X → D) (seat : X → SeatContent A) (end : X → E) (old new : List X) (log : List (Entry A))
+    → ((p q : D) (start last : SeatContent A) (e : E) → Held p q start last e → IsSettled log last → held_in p q start e) → length new ≡ length old → Leaves Held door seat end old new → IsLegal log → All (IsSettled log) (map seat new)
+    → All (λ (x : Entry A). x.seat < length old) log → AreHeldIn held_in (map door old) (map door new) (map seat old) (map end new) log
+holds_all {A} {D} {E} {X} Held held_in door seat end old new log shows same held legal settled nobody = record {
   legal = legal;
   back = length-map new door ∙ same ∙ sym (length-map old door);
   many = length-map new end ∙ same ∙ sym (length-map old door);
   each = λ k p q start e is is' at ended. let last = there (map seat new) (map end new) k e (length-map new seat ∙ sym (length-map new end)) ended in
-      let held' = each_held facts door seat end old new same held k p q start last.0 e is is' at last.1 ended in
-      record { last = last.0; edits = held'.0; held = held'.1; settled = settled_at k last.0 last.1 };
-  no_others = subst (λ (m : ℕ). All (λ (x : Entry A). x.seat < m) log) (sym (length-map old door ∙ long)) (nobody_else n log (map seat new) whole settled count);
+      shows p q start last.0 e (each_held Held door seat end old new same held k p q start last.0 e is is' at last.1 ended) (settled_at k last.0 last.1);
+  no_others = subst (λ (m : ℕ). All (λ (x : Entry A). x.seat < m) log) (sym (length-map old door)) nobody;
 }
   where
     settled_at : (k : ℕ) (last : SeatContent A) → slice_get (map seat new) k ≡ Some last → IsSettled log last
@@ -246,20 +249,24 @@ holds_all {A} {D} {X} n facts door seat end old new log same long held whole leg
 first_made : {A : Type 0} (first : SeatContent A) (movie : MovieContent) → HoldsMovie first movie → first.number ≡ 0 → entries_of 0 (take 2 first.front) ≡ 2
 first_made {A} first movie holds nought = subst (λ (n : ℕ). entries_of n (take 2 first.front) ≡ 2) nought holds.own
 
--- what a seat had made when its conversation began, and that it had seen as much
-pub begun : {A : Type 0} (movie : MovieContent) (seats : List (SeatContent A)) (k : ℕ) (start : SeatContent A) → HaveMovie movie seats → AreNumbered seats → HaveMadeNone seats → slice_get seats k ≡ Some start
-    → (start.made ≡ edits_before k) × (start.made ≤ entries_of start.number start.front)
+-- what a seat had made when its conversation began, and that it had seen as much, in the history's first two entries
+abbrev pub HasBegun : {A : Type 0} → ℕ → SeatContent A → Type 0
+HasBegun k start = (start.made ≡ edits_before k) × (start.made ≤ entries_of start.number start.front) × (start.made ≤ entries_of start.number (take 2 start.front))
+
+pub begun : {A : Type 0} (movie : MovieContent) (seats : List (SeatContent A)) (k : ℕ) (start : SeatContent A) → HaveMovie movie seats → AreNumbered seats → HaveMadeNone seats → slice_get seats k ≡ Some start → HasBegun k start
 begun {A} movie seats zero start has are none is =
     let same : has.first ≡ start = same_Some has.first start (sym has.first_is ∙ is) in
-    let mine : (has.first.made ≡ 2) × (has.first.made ≤ entries_of has.first.number has.first.front) =
-    (has.holds.made, omega (arith, has.holds.made, has.holds.own, entries_of-prefix has.first.number (take 2 has.first.front) has.first.front (begin_of 2 has.first.front))) in
-    subst (λ (s : SeatContent A). (s.made ≡ 2) × (s.made ≤ entries_of s.number s.front)) same mine
-begun movie seats (suc k) start has are none is = let e = none k start is in (e, omega (arith, e))
+    let mine : HasBegun 0 has.first =
+    (has.holds.made, omega (arith, has.holds.made, has.holds.own, entries_of-prefix has.first.number (take 2 has.first.front) has.first.front (begin_of 2 has.first.front)), omega (arith, has.holds.made, has.holds.own)) in
+    subst (λ (s : SeatContent A). HasBegun 0 s) same mine
+begun movie seats (suc k) start has are none is = let e = none k start is in (e, omega (arith, e), omega (arith, e))
 
 -- a desk that was held on a movie
-pub desk_history : {A D : Type 0} (facts : DoorFacts D) (movie : MovieContent) (doors doors' : List D) (seats : List (SeatContent A)) (ends : List (Result (Unit {0}) SeatFault)) (log : List (Entry A)) → length seats ≡ length doors
-    → HaveMovie movie seats → AreNumbered seats → HaveMadeNone seats → HaveBlankZones seats → HoldsAll facts doors doors' seats ends log → IsDeskHistory facts movie doors doors' ends log
-desk_history {A} {D} facts movie doors doors' seats ends log long has are none blank all =
+pub history_of : {A D E : Type 0} (held : D → D → SeatContent A → E → Type 0) (is_seat : ℕ → D → D → E → Type 0) (movie : MovieContent) (doors doors' : List D) (seats : List (SeatContent A)) (ends : List E) (log : List (Entry A)) → length seats ≡ length doors
+    → HaveMovie movie seats → AreNumbered seats → HaveMadeNone seats → HaveBlankZones seats → ((p q : D) (start : SeatContent A) (e : E) → held p q start e → IsPrefix start.front log)
+    → ((k : ℕ) (p q : D) (start : SeatContent A) (e : E) → held p q start e → start.number ≡ k → HasBegun k start → IsPrefix (take 2 log) start.front → IsBlankZone start.zone → is_seat k p q e)
+    → AreHeldIn held doors doors' seats ends log → IsHistoryOf is_seat movie doors doors' ends log
+history_of {A} {D} {E} held is_seat movie doors doors' seats ends log long has are none blank begins_in shown all =
     record {
       legal = all.legal;
       long = omega (arith, prefix_longer has.first.front log begins, has.holds.seen);
@@ -278,36 +285,46 @@ desk_history {A} {D} facts movie doors doors' seats ends log long has are none b
     door0' : (p : D) × (slice_get doors' 0 ≡ Some p)
     door0' = there doors' seats 0 has.first (all.back ∙ sym long) has.first_is
 
-    end0 : (e : Result (Unit {0}) SeatFault) × (slice_get ends 0 ≡ Some e)
+    end0 : (e : E) × (slice_get ends 0 ≡ Some e)
     end0 = there ends seats 0 has.first (all.many ∙ sym long) has.first_is
 
-    held0 : IsHeldIn facts log door0.0 door0'.0 has.first end0.0
-    held0 = all.each 0 door0.0 door0'.0 has.first end0.0 door0.1 door0'.1 has.first_is end0.1
-
     begins : IsPrefix has.first.front log
-    begins = prefix_trans has.first.front held0.last.front log (held_seen facts door0.0 door0'.0 has.first held0.last end0.0 (held0.edits, held0.held)).1 held0.settled.begins
+    begins = begins_in door0.0 door0'.0 has.first end0.0 (all.each 0 door0.0 door0'.0 has.first end0.0 door0.1 door0'.1 has.first_is end0.1)
 
     same : take 2 log ≡ take 2 has.first.front
     same = take_prefix 2 has.first.front log begins has.holds.seen
 
-    one : (k : ℕ) (p q : D) (e : Result (Unit {0}) SeatFault) → slice_get doors k ≡ Some p → slice_get doors' k ≡ Some q → slice_get ends k ≡ Some e → IsSeatOf facts log k p q e
+    one : (k : ℕ) (p q : D) (e : E) → slice_get doors k ≡ Some p → slice_get doors' k ≡ Some q → slice_get ends k ≡ Some e → is_seat k p q e
     one k p q e is is' ended =
         let start = there seats doors k p long is in
-        let held = all.each k p q start.0 e is is' start.1 ended in
-        let made = begun movie seats k start.0 has are none start.1 in
-        let shown = held_in_history facts p q start.0 held.last held.edits e log held.held made.1 held.settled in
-        record {
-          start = start.0;
-          last = held.last;
-          edits = held.edits;
-          number_is = are k start.0 start.1;
-          made = made.0;
-          begins = subst (λ (t : List (Entry A)). IsPrefix t start.0.front) (sym same) (has.met k start.0 start.1);
-          zone = blank k start.0 start.1;
-          held = held.held;
-          shows = shown.0;
-          not_foreign = shown.1;
-        }
+        shown k p q start.0 e (all.each k p q start.0 e is is' start.1 ended) (are k start.0 start.1) (begun movie seats k start.0 has are none start.1)
+        (subst (λ (t : List (Entry A)). IsPrefix t start.0.front) (sym same) (has.met k start.0 start.1)) (blank k start.0 start.1)
+
+held_begins : {A D : Type 0} (facts : DoorFacts D) (log : List (Entry A)) (p q : D) (start : SeatContent A) (e : Result (Unit {0}) SeatFault) → IsHeldIn facts log p q start e → IsPrefix start.front log
+held_begins facts log p q start e held = prefix_trans start.front held.last.front log (held_seen facts p q start held.last e (held.edits, held.held)).1 held.settled.begins
+
+seat_of_held : {A D : Type 0} (facts : DoorFacts D) (log : List (Entry A)) (k : ℕ) (p q : D) (start : SeatContent A) (e : Result (Unit {0}) SeatFault) → IsHeldIn facts log p q start e → start.number ≡ k
+    → HasBegun k start → IsPrefix (take 2 log) start.front → IsBlankZone start.zone → IsSeatOf facts log k p q e
+seat_of_held facts log k p q start e held number made begins blank =
+    let shown = held_in_history facts p q start held.last held.edits e log held.held made.1 held.settled in
+    record {
+      start = start;
+      last = held.last;
+      edits = held.edits;
+      number_is = number;
+      made = made.0;
+      begins = begins;
+      zone = blank;
+      held = held.held;
+      shows = shown.0;
+      not_foreign = shown.1;
+    }
+
+pub desk_history : {A D : Type 0} (facts : DoorFacts D) (movie : MovieContent) (doors doors' : List D) (seats : List (SeatContent A)) (ends : List (Result (Unit {0}) SeatFault)) (log : List (Entry A)) → length seats ≡ length doors
+    → HaveMovie movie seats → AreNumbered seats → HaveMadeNone seats → HaveBlankZones seats → HoldsAll facts doors doors' seats ends log → IsDeskHistory facts movie doors doors' ends log
+desk_history facts movie doors doors' seats ends log long has are none blank all =
+    history_of (λ p q start e. IsHeldIn facts log p q start e) (λ k p q e. IsSeatOf facts log k p q e) movie doors doors' seats ends log long has are none blank (λ p q start e held. held_begins facts log p q start e held)
+    (λ k p q start e held number made begins zone. seat_of_held facts log k p q start e held number made begins zone) all
 
 -- ---- a movie that wasn't made
 
@@ -425,36 +442,61 @@ item_before xs was i x d low rest = get_any xs i x d low ∙ rest i d (omega ari
 
 -- ---- callers
 
--- the seats that come back are all of the desk's
-pub whole_made : {A D X : Type 0} (n : ℕ) (facts : DoorFacts D) (door : X → D) (seat : X → SeatContent A) (end : X → Result (Unit {0}) SeatFault) (old lent new : List X) (backs : List (SeatContent A)) → lent ≡ old → length new ≡ length lent → length old ≡ n
-    → Leaves facts door seat end lent new → AreNumbered (map seat old) → backs ≡ map seat new → IsWhole n backs
-whole_made {A} {D} {X} n facts door seat end old lent new backs is same long held are back =
+-- what is reported of a caller whose conversation was held
+was_number : {A D : Type 0} (facts : DoorFacts D) → KeepsNumber (λ (p q : D) (start last : SeatContent A) (e : Result (Unit {0}) SeatFault). WasHeld facts p q start last e)
+was_number facts p q start last e held = (held_seen facts p q start last e held).0
+
+-- the seats that come back have their numbers
+pub back_numbered : {A D E X : Type 0} (Held : D → D → SeatContent A → SeatContent A → E → Type 0) (keeps : KeepsNumber Held) (door : X → D) (seat : X → SeatContent A) (end : X → E) (old lent new : List X) (backs : List (SeatContent A)) → lent ≡ old → length new ≡ length lent
+    → Leaves Held door seat end lent new → AreNumbered (map seat old) → backs ≡ map seat new → AreNumbered backs × (length backs ≡ length old)
+back_numbered {A} {D} {E} {X} Held keeps door seat end old lent new backs is same held are back =
     let are' : AreNumbered (map seat lent) = subst (λ (l : List X). AreNumbered (map seat l)) (sym is) are in
-    let count : length (map seat new) ≡ n = length-map new seat ∙ same ∙ ap (λ (l : List X). length l) is ∙ long in
-    subst (λ (l : List (SeatContent A)). IsWhole n l) (sym back) (whole_seats n (map seat new) (still_numbered facts door seat end lent new same held are') count)
+    let count : length (map seat new) ≡ length old = length-map new seat ∙ same ∙ ap (λ (l : List X). length l) is in (
+      subst (λ (l : List (SeatContent A)). AreNumbered l) (sym back) (still_numbered Held keeps door seat end lent new same held are'),
+      ap (λ (l : List (SeatContent A)). length l) back ∙ count,
+    )
+
+-- they are all of the desk's
+pub whole_made : {A D X : Type 0} (n : ℕ) (facts : DoorFacts D) (door : X → D) (seat : X → SeatContent A) (end : X → Result (Unit {0}) SeatFault) (old lent new : List X) (backs : List (SeatContent A)) → lent ≡ old → length new ≡ length lent → length old ≡ n
+    → Leaves (λ p q start last e. WasHeld facts p q start last e) door seat end lent new → AreNumbered (map seat old) → backs ≡ map seat new → IsWhole n backs
+whole_made {A} {D} {X} n facts door seat end old lent new backs is same long held are back =
+    let numbered = back_numbered (λ p q start last e. WasHeld facts p q start last e) (was_number facts) door seat end old lent new backs is same held are back in
+    whole_seats n backs numbered.0 (numbered.1 ∙ long)
 
 -- there is room for what comes back of callers that were lent
 pub room_lent : {X Y A : Type 0} (n : ℕ) (old lent new back : List X) (items : Vec Y A) → lent ≡ old → length new ≡ length lent → length old ≡ n → back ≡ new → HasRoom n items → HasRoom (length back) items
 room_lent {X} n old lent new back items is same long returned room =
     subst (λ (k : ℕ). HasRoom k items) (sym (ap (λ (l : List X). length l) returned ∙ same ∙ ap (λ (l : List X). length l) is ∙ long)) room
 
+-- and for one more
+pub room_lent_more : {X Y A : Type 0} (n : ℕ) (old lent new back : List X) (items : Vec Y A) → lent ≡ old → length new ≡ length lent → length old ≡ n → back ≡ new → HasRoom (n + 1) items → HasRoom (length back + 1) items
+room_lent_more {X} n old lent new back items is same long returned room =
+    subst (λ (k : ℕ). HasRoom (k + 1) items) (sym (ap (λ (l : List X). length l) returned ∙ same ∙ ap (λ (l : List X). length l) is ∙ long)) room
+
+-- what was held of callers that were lent, named otherwise
+pub held_lent : {A D E X : Type 0} (held : D → D → SeatContent A → E → Type 0) (door : X → D) (seat : X → SeatContent A) (old lent : List X) (doors doors' : List D) (ends ends' : List E) (log : List (Entry A)) → lent ≡ old → doors' ≡ doors → ends' ≡ ends
+    → AreHeldIn held (map door lent) doors (map seat lent) ends log → AreHeldIn held (map door old) doors' (map seat old) ends' log
+held_lent {A} {D} {E} {X} held door seat old lent doors doors' ends ends' log is returned ended all =
+    subst (λ (l : List D). AreHeldIn held (map door old) l (map seat old) ends' log) (sym returned)
+    (subst (λ (l : List E). AreHeldIn held (map door old) doors (map seat old) l log) (sym ended) (subst (λ (l : List X). AreHeldIn held (map door l) doors (map seat l) ends log) is all))
+
 -- and the closed desk shows all conversations
 pub holds_made : {A D X : Type 0} (n : ℕ) (facts : DoorFacts D) (door : X → D) (seat : X → SeatContent A) (end : X → Result (Unit {0}) SeatFault) (old lent new : List X) (doors' : List D) (backs : List (SeatContent A)) (ends : List (Result (Unit {0}) SeatFault))
-    (log : List (Entry A)) → lent ≡ old → length new ≡ length lent → length old ≡ n → Leaves facts door seat end lent new → AreNumbered (map seat old) → doors' ≡ map door new → backs ≡ map seat new → ends ≡ map end new
+    (log : List (Entry A)) → lent ≡ old → length new ≡ length lent → length old ≡ n → Leaves (λ p q start last e. WasHeld facts p q start last e) door seat end lent new → AreNumbered (map seat old) → doors' ≡ map door new → backs ≡ map seat new → ends ≡ map end new
     → IsLegal log → All (IsSettled log) backs → length log ≡ made_by backs → HoldsAll facts (map door old) doors' (map seat old) ends log
 holds_made {A} {D} {X} n facts door seat end old lent new doors' backs ends log is same long held are returned back ended legal settled count =
-    let whole : IsWhole n (map seat new) = subst (λ (l : List (SeatContent A)). IsWhole n l) back (whole_made n facts door seat end old lent new backs is same long held are back) in
+    let whole : IsWhole n backs = whole_made n facts door seat end old lent new backs is same long held are back in
     let settled' : All (IsSettled log) (map seat new) = subst (λ (l : List (SeatContent A)). All (IsSettled log) l) back settled in
-    let count' : length log ≡ made_by (map seat new) = count ∙ ap (λ (l : List (SeatContent A)). made_by l) back in
-    let all : HoldsAll facts (map door lent) (map door new) (map seat lent) (map end new) log = holds_all n facts door seat end lent new log same (ap (λ (l : List X). length l) is ∙ long) held whole legal settled' count' in
-    subst (λ (l : List D). HoldsAll facts (map door old) l (map seat old) ends log) (sym returned)
-    (subst (λ (l : List (Result (Unit {0}) SeatFault)). HoldsAll facts (map door old) (map door new) (map seat old) l log) (sym ended) (subst (λ (l : List X). HoldsAll facts (map door l) (map door new) (map seat l) (map end new) log) is all))
+    let nobody : All (λ (x : Entry A). x.seat < length lent) log = subst (λ (m : ℕ). All (λ (x : Entry A). x.seat < m) log) (sym (ap (λ (l : List X). length l) is ∙ long)) (nobody_else n log backs whole settled count) in
+    held_lent (λ p q start e. IsHeldIn facts log p q start e) door seat old lent (map door new) doors' (map end new) ends log is returned ended
+    (holds_all (λ p q start last e. WasHeld facts p q start last e) (λ p q start e. IsHeldIn facts log p q start e) door seat end lent new log
+    (λ p q start last e was settled_last. record { last = last; edits = was.0; held = was.1; settled = settled_last }) same held legal settled' nobody)
 
 -- the callers were these seats with these doors
-pub held_as : {A D : Type 0} (facts : DoorFacts D) (doors was doors' : List D) (seats starts : List (SeatContent A)) (ends : List (Result (Unit {0}) SeatFault)) (log : List (Entry A)) → was ≡ doors → starts ≡ seats → HoldsAll facts was doors' starts ends log
-    → HoldsAll facts doors doors' seats ends log
-held_as {A} {D} facts doors was doors' seats starts ends log same same' all =
-    subst (λ (l : List (SeatContent A)). HoldsAll facts doors doors' l ends log) same' (subst (λ (l : List D). HoldsAll facts l doors' starts ends log) same all)
+pub held_as : {A D E : Type 0} (held : D → D → SeatContent A → E → Type 0) (doors was doors' : List D) (seats starts : List (SeatContent A)) (ends : List E) (log : List (Entry A)) → was ≡ doors → starts ≡ seats → AreHeldIn held was doors' starts ends log
+    → AreHeldIn held doors doors' seats ends log
+held_as {A} {D} held doors was doors' seats starts ends log same same' all =
+    subst (λ (l : List (SeatContent A)). AreHeldIn held doors doors' l ends log) same' (subst (λ (l : List D). AreHeldIn held l doors' starts ends log) same all)
 
 -- ---- the desk that was opened
 

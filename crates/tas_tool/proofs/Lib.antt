@@ -10,3 +10,4 @@ pub mod TalkRunLemmas
 pub mod HoldingLemmas
 pub mod DeskLemmas
 pub mod NotedLemmas
+pub mod NotedDeskLemmas

@@ -1,5 +1,5 @@
 -- Conversations with a journal on a desk of one seat.
-use Rattle.std.proofs.Common.{◌≡◌, ℕ, zero, suc, ◌+◌, ◌-◌, ◌≤◌, List, [], ◌∷◌, ◌++◌, length, take, drop, Option, Some, None, Result, Ok, Err, inl, inr, refl, sym, ap, subst, ◌∙◌, arith, length-append}
+use Rattle.std.proofs.Common.{◌≡◌, ℕ, zero, suc, ◌+◌, ◌≤◌, List, [], ◌∷◌, ◌++◌, length, take, drop, Option, Some, None, Result, Ok, Err, inl, inr, refl, sym, ap, subst, ◌∙◌, arith, length-append}
 use Rattle.std.specs.Prelude.{IfErr}
 use Rattle.byte_text.specs.CutOff.{IsCutOff}
 use Rattle.std.specs.Io.KnownBytes.{Appends, Consumes}
@@ -20,7 +20,6 @@ use Rattle.tas_engines.specs.Changes.{EditContent}
 use Rattle.tas_engines.specs.declared.fault.ReadFault.TheVariants.{TooLong, Failed, Memory as NoRoom}
 use Rattle.tas_engines.specs.declared.fault.RunFault.{RunFault}
 use Rattle.tas_engines.specs.declared.fault.RunFault.TheVariants.{Write, Size, Text, NoFrame as OffMovie, Range as OffRange, Halted as Stopped, HaltedFrame as StoppedFrame, Script, Place, Long, NoPlace, NoEntry, Foreign, Memory}
-use Rattle.tas_engines.specs.declared.fault.ToolFault.{ToolFault}
 use Rattle.tas_engines.specs.declared.fault.ToolFault.TheVariants.{Read, Run, Seat}
 use Rattle.tas_journal.specs.Text.{edit_text, entry_front, entry_text, entry_lines, head_text}
 use Rattle.tas_journaling.specs.Journals.{JournalContent, IsNoted, HasAll, IsCutShort, IsUnsynced, HasLess, IsGivenPart, journaled, lines_from}
@@ -29,11 +28,12 @@ use Rattle.tas_journaling.specs.declared.journal.JournalFault.TheVariants as jou
 use Rattle.tas_journaling.specs.declared.talking.TalkFault.{TalkFault}
 use Rattle.tas_journaling.specs.declared.talking.TalkFault.TheVariants.{Tool, Journal}
 use Rattle.tas_journaling.specs.Talks.{Ways, AreShown, NotedEnds, JournalEnds, IsNotedTalk}
+use Rattle.tas_journaling.proofs.CallLemmas.{as_run, ends_as, shown_leave}
 use Rattle.tas_seat.specs.Conversations.{TalkingSeat, talking}
 use Rattle.tas_seat.specs.Drafts.{DraftContent}
 use Rattle.tas_seat.specs.Seats.{talk_state_at, entries_from}
 use Rattle.tas_seat.specs.Talk.{Exchange as SeatExchange, TalkEnds as SeatEnds, IsCarriedOut as IsSeatCarriedOut, answers_of as seat_texts, edits_of}
-use Rattle.tas_seat.proofs.HistoryLemmas.{Leaves, prefix_length, exchange_leaves, leaves_more, leaves_same, leaves_seen, rested, Rested}
+use Rattle.tas_seat.proofs.HistoryLemmas.{Leaves, prefix_length, exchange_leaves, leaves_seen, rested, Rested}
 use Rattle.tas_tool.specs.Scripts.{IsUnmade}
 use Rattle.tas_tool.specs.Talk.{DraftedState, drafted, AreExchanges, TalkEnds, IsUnbegun, answers_of, own_entries, talk_state_from}
 use Rattle.tas_tool.specs.NotedTalks.{journal_since, NotedTalkEnds, CarriesTo, MakesInAll, IsGivenTo, IsTalkNoted, IsKeptAt, IsKeptBy, IsNoBeginning, IsNotedTalkLeaving}
@@ -51,13 +51,6 @@ shown_same {A} seat shown draft keeps seen own =
     ap (λ (l : List (Entry A)). drafted (talk_state_at l shown.zone) (edits_seen l) draft) front
     ∙ ap (λ (z : ZoneContent A). drafted (talk_state_at seat.front z) (edits_seen seat.front) draft) keeps.zone
 
-shown_leave : {A : Type 0} (start last : TalkingSeat A) (xs : List (SeatExchange A)) → AreShown start xs last → Leaves start.seat last.seat (edits_of xs)
-unfolding AreShown
-shown_leave {A} start last [] is = leaves_same start.seat last.seat (ap (λ (s : TalkingSeat A). s.seat) is)
-shown_leave {A} start last (x ∷ xs) (is, shown, keeps, rest) =
-    leaves_more start.seat x.next.seat last.seat x.edits (edits_of xs) (exchange_leaves start x is)
-    (leaves_more x.next.seat shown last.seat [] (edits_of xs) (leaves_seen x.next.seat shown keeps.seen) (shown_leave (talking shown x.next.draft) last xs rest))
-
 -- its lines are answered at what the lines before them made
 own_shown : {A : Type 0} (start last : TalkingSeat A) (xs : List (SeatExchange A)) → AreShown start xs last → start.seat.made ≤ length start.seat.front → SeesOwn last.seat → AreExchanges (own_place start) (own_all xs) (own_place last)
 unfolding AreShown AreExchanges own_all
@@ -73,18 +66,6 @@ own_shown {A} start last (x ∷ xs) (is, shown, keeps, rest) seen own =
     )
 
 -- ---- the end
-
--- an end without a journal: a journal's fault is read as one of memory
-abbrev as_run : Result (Unit {0}) TalkFault → Result (Unit {0}) ToolFault
-as_run (Ok u) = Ok u
-as_run (Err (Tool fault)) = Err fault
-as_run (Err (Journal fault)) = Err (Run Memory)
-
-ends_as : {A : Type 0} (seat : TalkingSeat A) (last : SeatContent A) (rest told : List ℕ) (edits : List (Edit A)) (input output output' : Option (List ℕ)) (result : Result (Unit {0}) TalkFault) → NotedEnds seat last rest told edits input output output' result
-    → SeatEnds seat last rest told edits input output output' (as_run result)
-ends_as seat last rest told edits input output output' (Ok u) is = is
-ends_as seat last rest told edits input output output' (Err (Tool fault)) is = is
-ends_as seat last rest told edits input output output' (Err (Journal fault)) (answer, is, out) = (inr (answer, is), out)
 
 ends_from : (state : DraftedState) (rest told : List ℕ) (input output output' : Option (List ℕ)) (result : Result (Unit {0}) TalkFault) → TalkEnds state rest told input output output' (as_run result) → NotedTalkEnds state rest told input output output' result
 ends_from state rest told input output output' (Ok u) is = is

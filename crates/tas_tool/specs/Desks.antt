@@ -53,8 +53,8 @@ pub record IsSeatOf {A D : Type 0} (facts : DoorFacts D) (history : List (Entry 
   pub not_foreign : end ≡ Err Foreign → ⊥
 
 -- a legal history of a desk: its first two entries are the first seat's, load the movie's cartridge and put its inputs in, and so make it; each seat's door and end are those of a
--- conversation that it shows; and nobody else has entries
-pub record IsDeskHistory {A D : Type 0} (facts : DoorFacts D) (movie : MovieContent) (doors doors' : List D) (ends : List (Result (Unit {0}) SeatFault)) (history : List (Entry A)) : Type 0 where
+-- conversation that it shows, as `is_seat` says; and nobody else has entries
+pub record IsHistoryOf {A D E : Type 0} (is_seat : ℕ → D → D → E → Type 0) (movie : MovieContent) (doors doors' : List D) (ends : List E) (history : List (Entry A)) : Type 0 where
   pub legal : IsLegal history
   pub long : 2 ≤ length history
   pub first : entries_of 0 (take 2 history) ≡ 2
@@ -62,8 +62,11 @@ pub record IsDeskHistory {A D : Type 0} (facts : DoorFacts D) (movie : MovieCont
   pub movie_is : movie_of (take 2 history) ≡ movie
   pub back : length doors' ≡ length doors
   pub many : length ends ≡ length doors
-  pub seats : (k : ℕ) (door door' : D) (end : Result (Unit {0}) SeatFault) → slice_get doors k ≡ Some door → slice_get doors' k ≡ Some door' → slice_get ends k ≡ Some end → IsSeatOf facts history k door door' end
+  pub seats : (k : ℕ) (door door' : D) (end : E) → slice_get doors k ≡ Some door → slice_get doors' k ≡ Some door' → slice_get ends k ≡ Some end → is_seat k door door' end
   pub no_others : All (λ entry. entry.seat < length doors) history
+
+abbrev pub IsDeskHistory : {A D : Type 0} → DoorFacts D → MovieContent → (doors doors' : List D) → List (Result (Unit {0}) SeatFault) → List (Entry A) → Type 0
+IsDeskHistory facts movie doors doors' ends history = IsHistoryOf (λ number door door' end. IsSeatOf facts history number door door' end) movie doors doors' ends history
 
 -- ---- the end
 

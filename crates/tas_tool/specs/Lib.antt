@@ -2,6 +2,7 @@ pub mod Desks
 pub mod Films
 pub mod Inside
 pub mod MovieScripts
+pub mod NotedDesks
 pub mod NotedTalks
 pub mod Pixmaps
 pub mod Scripts

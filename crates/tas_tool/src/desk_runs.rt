@@ -92,7 +92,7 @@ fn hold_desk<
 }
 
 /// Writes the text of a movie.
-fn write_movie<A: Allocator + Copy, W: Write>(
+pub(crate) fn write_movie<A: Allocator + Copy, W: Write>(
     alloc: A,
     movie: &Movie<A>,
     output: &mut W,

@@ -19,6 +19,8 @@ mod filming;
 mod holding;
 mod making;
 mod movie_scripting;
+mod noted_desk_runs;
+mod noted_holding;
 mod noted_talks;
 mod opening;
 mod scripting;
@@ -28,6 +30,7 @@ pub use desk_runs::desk_run;
 pub use exporting::export_run;
 pub use filming::film_run;
 pub use movie_scripting::movie_script_run;
+pub use noted_desk_runs::{DeskFault, NotedDesk, noted_desk_run};
 pub use noted_talks::{NotedTalk, noted_cart_talk_run, noted_movie_talk_run, noted_talk_run};
 pub use scripting::script_run;
 pub use talk_runs::{Talked, cart_talk_run, movie_talk_run, talk_run};
@@ -36,5 +39,5 @@ pub use tas_engines::{
     INPUT_LIMIT, ReadFault, RunFault, SeatFault, ToolFault, check_run, shot_run, trace_run,
     write_all,
 };
-pub use tas_journaling::{Journal, JournalFault, JournalFile, TalkFault};
+pub use tas_journaling::{CallFault, Journal, JournalFault, JournalFile, TalkFault};
 pub use tas_seat::Door;

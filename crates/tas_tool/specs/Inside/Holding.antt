@@ -16,7 +16,11 @@ use Rattle.tas_engines.specs.Input.{IsReadWhole, StopsReading, StopsReadingTwo}
 use Rattle.tas_engines.specs.Movies.{IsMovieOf, IsMovieFault}
 use Rattle.tas_engines.specs.Tracing.{IsImageFault}
 use Rattle.tas_seat.specs.Lines.{DoorFacts, IsHeld}
-use Rattle.tas_tool.specs.Desks.{IsBlankZone}
+use Rattle.tas_journaling.specs.declared.callers.CallFault.{CallFault}
+use Rattle.tas_journaling.specs.Callers.{WasNoted}
+use Rattle.tas_journaling.specs.Journals.{JournalContent}
+use Rattle.tas_tool.specs.Desks.{IsBlankZone, IsHistoryOf}
+use Rattle.tas_tool.specs.NotedDesks.{IsFileOf, IsNotedSeatOf}
 use Rattle.tas_tool.specs.Inside.TwoEdits.{HoldsMovie, IsMakingFault}
 
 -- seats have the numbers from 0 on
@@ -54,12 +58,49 @@ pub record IsHeldIn {A D : Type 0} (facts : DoorFacts D) (history : List (Entry 
   pub settled : IsSettled history last
 
 -- the conversations of all seats, from what these were to the history that the closed desk leaves
-pub record HoldsAll {A D : Type 0} (facts : DoorFacts D) (doors doors' : List D) (starts : List (SeatContent A)) (ends : List (Result (Unit {0}) SeatFault)) (history : List (Entry A)) : Type 0 where
+pub record AreHeldIn {A D E : Type 0} (held : D → D → SeatContent A → E → Type 0) (doors doors' : List D) (starts : List (SeatContent A)) (ends : List E) (history : List (Entry A)) : Type 0 where
   pub legal : IsLegal history
   pub back : length doors' ≡ length doors
   pub many : length ends ≡ length doors
-  pub each : (k : ℕ) (door door' : D) (start : SeatContent A) (end : Result (Unit {0}) SeatFault) → slice_get doors k ≡ Some door → slice_get doors' k ≡ Some door' → slice_get starts k ≡ Some start → slice_get ends k ≡ Some end → IsHeldIn facts history door door' start end
+  pub each : (k : ℕ) (door door' : D) (start : SeatContent A) (end : E) → slice_get doors k ≡ Some door → slice_get doors' k ≡ Some door' → slice_get starts k ≡ Some start → slice_get ends k ≡ Some end → held door door' start end
   pub no_others : All (λ entry. entry.seat < length doors) history
+
+abbrev pub HoldsAll : {A D : Type 0} → DoorFacts D → (doors doors' : List D) → (starts : List (SeatContent A)) → (ends : List (Result (Unit {0}) SeatFault)) → (history : List (Entry A)) → Type 0
+HoldsAll facts doors doors' starts ends history = AreHeldIn (λ door door' start end. IsHeldIn facts history door door' start end) doors doors' starts ends history
+
+-- a seat whose conversation was held with a journal, of which its caller was told so much, and what the history has of it
+pub record IsNotedIn {A D : Type 0} (facts : DoorFacts D) (first : ℕ) (history : List (Entry A)) (upto : ℕ) (door door' : D) (start : SeatContent A) (end : Result (Unit {0}) CallFault) : Type 0 where
+  pub last : SeatContent A
+  pub told : ℕ
+  pub was : WasNoted facts first door door' start last told end
+  pub settled : IsSettled history last
+  pub covered : told ≤ upto
+
+abbrev pub NotesAll : {A D : Type 0} → DoorFacts D → (first : ℕ) → (doors doors' : List D) → (starts : List (SeatContent A)) → (ends : List (Result (Unit {0}) CallFault)) → (history : List (Entry A)) → (upto : ℕ) → Type 0
+NotesAll facts first doors doors' starts ends history upto = AreHeldIn (λ door door' start end. IsNotedIn facts first history upto door door' start end) doors doors' starts ends history
+
+-- the same with the journal's file
+pub record NotesInto {A D : Type 0} (facts : DoorFacts D) (kept : Option (List ℕ) → Type 0) (head : Option (List ℕ)) (first : ℕ) (doors doors' : List D) (starts : List (SeatContent A)) (ends : List (Result (Unit {0}) CallFault)) (file : Option (List ℕ)) (history : List (Entry A)) : Type 0 where
+  pub journal : JournalContent
+  pub is : IsFileOf kept head first file history journal
+  pub all : NotesAll facts first doors doors' starts ends history journal.upto
+
+-- and of a desk on a movie, whose journal has this head
+pub record IsNotedDesk {A D : Type 0} (facts : DoorFacts D) (kept : Option (List ℕ) → Type 0) (head : Option (List ℕ)) (movie : MovieContent) (doors doors' : List D) (ends : List (Result (Unit {0}) CallFault)) (file : Option (List ℕ)) (history : List (Entry A)) : Type 0 where
+  pub journal : JournalContent
+  pub is : IsFileOf kept head 2 file history journal
+  pub desk : IsHistoryOf (λ number door door' end. IsNotedSeatOf facts history journal.upto number door door' end) movie doors doors' ends history
+
+-- a journal's own seat is the one after these, and made no edit
+abbrev pub IsOwnSeat : ℕ → (ℕ → ℕ → Type 0) → Type 0
+IsOwnSeat count own = (number made : ℕ) → own number made → (number ≡ count) × (made ≡ 0)
+
+-- the seats of a desk on a movie, before the first conversation
+pub record IsNotedStart {A : Type 0} (movie : MovieContent) (seats : List (SeatContent A)) : Type 0 where
+  pub numbers : AreNumbered seats
+  pub others : HaveMadeNone seats
+  pub has : HaveMovie movie seats
+  pub zones : HaveBlankZones seats
 
 -- an empty list with room for some items
 abbrev pub HasRoom : {X A : Type 0} → ℕ → Vec X A → Type 0

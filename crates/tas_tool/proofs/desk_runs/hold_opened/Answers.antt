@@ -1,7 +1,7 @@
 use Rattle.std.proofs.lemmas.Grind.{common_steps}
 use Rattle.std.proofs.Common.{List, length, refl, sym, ap, subst, ◌∙◌, arith}
 use Rattle.tas_desk.specs.Seats.{SeatContent}
-use Rattle.tas_tool.specs.Inside.Holding.{AreFresh, AreNumbered}
+use Rattle.tas_tool.specs.Inside.Holding.{AreFresh, AreNumbered, IsHeldIn}
 use Rattle.tas_tool.proofs.HoldingLemmas.{whole_back, whole_lent, unmade_closed, desk_history, held_as}
 use Rattle.tas_tool.proofs.desk_runs.hold_opened.Goals as goal
 
@@ -33,7 +33,7 @@ returns-clause-history g c =
     let back = whole_back c.put_for_all.new.seats _ _ _ (sym (c.put_for_all.ensures.count ∙ c.as_mut_slice.ensures.len)) refl in
     desk_history g.D.Door.facts c.args.movie c.args.doors.now.items c.hold_made.new.doors.items c.put_for_all.new.seats _ _
     (c.put_for_all.ensures.count ∙ ap (λ l. length l) c.as_mut_slice.ensures.value ∙ c.requires.count.1 ∙ sym c.requires.count.0) c.in_default.ensures.movie c.put_for_all.ensures.numbers c.put_for_all.ensures.others c.in_default.ensures.zones
-    (held_as g.D.Door.facts c.args.doors.now.items _ c.hold_made.new.doors.items c.put_for_all.new.seats _ _ _ refl back c.hold_made.ensures.history)
+    (held_as (λ p q start e. IsHeldIn g.D.Door.facts _ p q start e) c.args.doors.now.items _ c.hold_made.new.doors.items c.put_for_all.new.seats _ _ _ refl back c.hold_made.ensures.history)
 
 pub returns-in-Err-clause-unopened : goal.returns-in-Err-clause-unopened
 returns-in-Err-clause-unopened g c = grind (arith, common_steps)
