@@ -63,7 +63,7 @@ far_more facts rows part at to old mid new written written' same more ends last 
 -- memory is refused before the next ones are written
 pub far_stopped : (facts : ShelfFacts) (rows : List RowWords) (at : ℕ) (old now : Option (List ℕ)) (written same : ℕ) (ends : List RowEnd) → SoFar facts rows at old now written same ends → EndsOn facts rows old now (Err Memory)
 far_stopped facts rows at old now written same ends far =
-    (ends, record { front = take at rows; later = drop at rows; parts = sym (take-append-drop at rows); outcomes = far.outcomes }, far.out)
+    (ends, (record { front = take at rows; later = drop at rows; parts = sym (take-append-drop at rows); outcomes = far.outcomes }, far.out))
 
 -- a write of the next ones breaks off, or memory is refused for them
 pub far_broken : (facts : ShelfFacts) (rows part : List RowWords) (at to : ℕ) (old mid new : Option (List ℕ)) (written same : ℕ) (ends last : List RowEnd) (fault : VerifyFault) → SoFar facts rows at old mid written same ends
@@ -79,7 +79,7 @@ far_broken facts rows part at to old mid new written same ends last (Write n) fa
     } in
     (ends ++ last, inl (first, subst (λ (b : List ℕ). IsCutOff old new b n) text whole))
 far_broken facts rows part at to old mid new written same ends last Memory far parts outcomes kept =
-    (ends, record { front = take at rows; later = drop at rows; parts = sym (take-append-drop at rows); outcomes = far.outcomes }, Appends-kept old mid new (end_lines ends) far.out kept)
+    (ends, (record { front = take at rows; later = drop at rows; parts = sym (take-append-drop at rows); outcomes = far.outcomes }, Appends-kept old mid new (end_lines ends) far.out kept))
 far_broken facts rows part at to old mid new written same ends last (Read why) far parts outcomes broken = absurd broken
 far_broken facts rows part at to old mid new written same ends last (Manifest line) far parts outcomes broken = absurd broken
 
@@ -104,7 +104,7 @@ far_all facts rows at old now written same movies ends far all are =
 pub all_written : (facts : ShelfFacts) (rows : List RowWords) (old mid new : Option (List ℕ)) (written : ℕ) (tally said : Tally) (ends : List RowEnd) → HasAll facts rows old mid written tally ends
     → said ≡ tally → Appends mid new (tally_line tally) → EndsOn facts rows old new (Ok said)
 all_written facts rows old mid new written tally said ends all is out =
-    (ends, all.outcomes, is ∙ all.tally_is, subst (λ (t : Tally). Appends old new (end_lines ends ++ tally_line t)) all.tally_is (Appends-trans old mid new (end_lines ends) (tally_line tally) all.out out))
+    (ends, (all.outcomes, is ∙ all.tally_is, subst (λ (t : Tally). Appends old new (end_lines ends ++ tally_line t)) all.tally_is (Appends-trans old mid new (end_lines ends) (tally_line tally) all.out out)))
 
 pub all_broken : (facts : ShelfFacts) (rows : List RowWords) (old mid new : Option (List ℕ)) (written : ℕ) (tally : Tally) (ends : List RowEnd) (fault : VerifyFault) → HasAll facts rows old mid written tally ends
     → BreaksOff mid new (tally_line tally) written fault → EndsOn facts rows old new (Err fault)
@@ -113,7 +113,7 @@ all_broken facts rows old mid new written tally ends (Write n) all broken =
     let text : (end_lines ends ++ tally_line tally) ++ [] ≡ report ends = append-nil (end_lines ends ++ tally_line tally) ∙ ap (λ (t : Tally). end_lines ends ++ tally_line t) all.tally_is in
     (ends, inr (all.outcomes, subst (λ (b : List ℕ). IsCutOff old new b n) text whole))
 all_broken facts rows old mid new written tally ends Memory all kept =
-    (ends, record { front = rows; later = []; parts = sym (append-nil rows); outcomes = all.outcomes }, Appends-kept old mid new (end_lines ends) all.out kept)
+    (ends, (record { front = rows; later = []; parts = sym (append-nil rows); outcomes = all.outcomes }, Appends-kept old mid new (end_lines ends) all.out kept))
 all_broken facts rows old mid new written tally ends (Read why) all broken = absurd broken
 all_broken facts rows old mid new written tally ends (Manifest line) all broken = absurd broken
 
@@ -147,5 +147,5 @@ pub runs_on : (facts : ShelfFacts) (bytes : List ℕ) (rows : List RowWords) (ol
 runs_on facts bytes rows old new (Ok tally) is ends = inr (rows, is, ends)
 runs_on facts bytes rows old new (Err Memory) is ends = inr (rows, is, ends)
 runs_on facts bytes rows old new (Err (Write written)) is ends = inr (rows, is, ends)
-runs_on facts bytes rows old new (Err (Read fault)) is ends = absurd ends
-runs_on facts bytes rows old new (Err (Manifest line)) is ends = absurd ends
+runs_on facts bytes rows old new (Err (Read fault)) is ends = absurd ends.1
+runs_on facts bytes rows old new (Err (Manifest line)) is ends = absurd ends.1

@@ -23,15 +23,18 @@ pub record AreFirst (facts : ShelfFacts) (rows : List RowWords) (ends : List Row
 abbrev pub report : List RowEnd → List ℕ
 report ends = end_lines ends ++ tally_line (tally_of ends)
 
--- how it ends on these movies: a line of each is written, in order, and the last line; or the lines of the first ones alone, where
--- memory is refused; or the first bytes of either, where a write fails
+-- how it ends on these movies, where these are the ones of which lines are written, and what came of them: a line of each is written, in order,
+-- and the last line; or the lines of the first ones alone, where memory is refused; or the first bytes of either, where a write fails
+abbrev pub EndsWith : ShelfFacts → List RowWords → (old new : Option (List ℕ)) → Result Tally VerifyFault → List RowEnd → Type 0
+EndsWith facts rows old new (Ok tally) ends = AreOutcomes facts rows ends × (tally ≡ tally_of ends) × Appends old new (report ends)
+EndsWith facts rows old new (Err Memory) ends = AreFirst facts rows ends × Appends old new (end_lines ends)
+EndsWith facts rows old new (Err (Write written)) ends =
+    (AreFirst facts rows ends × IsCutOff old new (end_lines ends) written) ⊎ (AreOutcomes facts rows ends × IsCutOff old new (report ends) written)
+EndsWith facts rows old new (Err _) ends = ⊥
+
+-- it ends so with some of them
 abbrev pub EndsOn : ShelfFacts → List RowWords → (old new : Option (List ℕ)) → Result Tally VerifyFault → Type 0
-EndsOn facts rows old new (Ok tally) = (ends : List RowEnd) × AreOutcomes facts rows ends × (tally ≡ tally_of ends) × Appends old new (report ends)
-EndsOn facts rows old new (Err Memory) = (ends : List RowEnd) × AreFirst facts rows ends × Appends old new (end_lines ends)
-EndsOn facts rows old new (Err (Write written)) =
-    (ends : List RowEnd)
-    × ((AreFirst facts rows ends × IsCutOff old new (end_lines ends) written) ⊎ (AreOutcomes facts rows ends × IsCutOff old new (report ends) written))
-EndsOn facts rows old new (Err _) = ⊥
+EndsOn facts rows old new result = (ends : List RowEnd) × EndsWith facts rows old new result ends
 
 -- what comes of a manifest's bytes: they are none, and nothing is written; or it ends on the movies that they name
 abbrev pub RunsOn : ShelfFacts → List ℕ → (old new : Option (List ℕ)) → Result Tally VerifyFault → Type 0

@@ -7,6 +7,7 @@
 mod carts;
 mod fault;
 mod judging;
+mod laws;
 mod lines;
 mod manifest;
 mod outcome;
@@ -18,6 +19,7 @@ mod workers;
 
 pub use carts::{Cart, name_of};
 pub use fault::VerifyFault;
+pub use laws::{one_list_per_manifest, one_outcome_per_movie, one_report_per_manifest};
 pub use lines::{Tally, Verified};
 pub use manifest::{ManifestError, Row, read_manifest};
 pub use outcome::{Outcome, Role};

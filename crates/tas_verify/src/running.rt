@@ -154,8 +154,8 @@ pub fn verify_run<
 where
     S::File: Send,
     // Each movie that the manifest names has its line, which says what comes of it alone, in the manifest's order, and a last line
-    // counts them. The clause doesn't mention the workers: where the files' bytes are known, each is opened and read, and memory is
-    // there, the files alone decide the bytes. Where the manifest isn't read or is none, nothing is written; where memory is refused,
+    // counts them. The clause doesn't mention the workers: where the files' bytes are known, the files alone decide the bytes, but for
+    // accidents (`one_report_per_manifest`). Where the manifest isn't read or is none, nothing is written; where memory is refused,
     // lines of the first movies; after `Write` the first bytes are out, as many as it reports.
     // Refused: line_is_named_by_the_cartridge, later_movies_are_left_out, all_are_counted_as_the_same, movie_is_not_played,
     // fault_of_a_manifest_has_no_number, failed_read_is_a_line_at_fault, bytes_before_are_not_counted.
