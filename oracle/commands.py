@@ -25,7 +25,7 @@ FORMS = {
     "check": "c", "migrate": "c", "edit": "cf", "cut": "cnn", "diff": "cm", "script": "", "talk": "|cm", "shot": "cn", "film": "c|nn", "export": "cnnw", "ram": "cnn",
     "digest": "c|e", "compare": "cm", "lag": "c", "trace": "t", "new": "cl", "recover": "c", "search": "cnlg", "verify": "", "desk": "cmff|ffffffffffffff"}
 NUMBERS = {"n": (0, 9999999), "w": (1, 16), "e": (1, MOST), "l": (0, MOST), "s": (1, 9999999), "t": (0, 1000000), "j": (1, 4294967295)}
-FLAGS = {"edit": ("--with",), "talk": ("--journal",), "recover": ("--until",), "search": ("--choices", "--names", "--hold", "--first", "--most", "--workers"), "verify": ("--carts", "--workers"), "script": ("--cart", "--movie")}
+FLAGS = {"edit": ("--with",), "talk": ("--journal",), "desk": ("--journal",), "recover": ("--until",), "search": ("--choices", "--names", "--hold", "--first", "--most", "--workers"), "verify": ("--carts", "--workers"), "script": ("--cart", "--movie")}
 FLAG_NUMBERS = {"--hold": "e", "--most": "s", "--workers": "w", "--until": "j"}
 NUMBER = re.compile(r"\+?0*([0-9]{1,10})")
 PART, MOST_PARTS = re.compile(r"([1-9][0-9]{0,6})/([1-9][0-9]{0,6})"), 1000000
@@ -320,8 +320,10 @@ class Run:
             self.seen["talk: an edit in a journal"] += len(holder.edits) > first
         return answers
 
-    def desk(self, cart, movie, *pairs):
+    def desk(self, cart, movie, *pairs, journal=None):
         """Where no pair is there."""
+        if journal is not None:
+            raise Open("a desk with a journal")
         cart, old = self.inputs.read([cart, movie], False)
         frames = readings.read_movie(old, sized(cart))
         if any(name in self.inputs.files for name in pairs):

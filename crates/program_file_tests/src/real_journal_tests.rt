@@ -1,4 +1,4 @@
-//! `tas talk --journal` over files of the system: the file must be new, has each edit, and makes the movie again.
+//! `tas talk --journal` and `tas desk --journal` over files of the system: the file must be new, has each edit, and makes the movie again.
 
 use crate::checks::{check_same, check_that, expect_ok};
 use crate::movies::{PLAYFIELD, image_of};
@@ -41,13 +41,20 @@ const NOWHERE: &str = "real_journal/nowhere/day";
 
 const SAVED: &str = "real_journal/saved";
 
+/// The files of a desk's pair, and its journal.
+const LINES: &str = "real_journal/lines";
+
+const ANSWERS: &str = "real_journal/answers";
+
+const NIGHT: &str = "real_journal/night";
+
 /// The words, the status, the answers, and the line.
 type Case<'a> = (&'a [&'a str], u8, &'a [u8], &'a [u8]);
 
 const NOT_CREATED: &[u8] = b"fault: journal: not created\n";
 
 /// What is done in turn, each on what those before it left.
-static CASES: [Case<'static>; 12] = [
+static CASES: [Case<'static>; 19] = [
     (
         &["talk", CART, BLANK, "--journal", GONE],
         1,
@@ -120,6 +127,48 @@ static CASES: [Case<'static>; 12] = [
         b"",
         b"fault: JOURNAL: file exists\n",
     ),
+    (
+        &["desk", CART, BLANK, LINES, ANSWERS, "--journal", GONE],
+        1,
+        b"",
+        b"fault: movie line 1: end\n",
+    ),
+    (
+        &["desk", CART, MOVIE, LINES, ANSWERS, "--journal", DAY],
+        2,
+        b"",
+        b"fault: JOURNAL: file exists\n",
+    ),
+    (
+        &["desk", CART, MOVIE, LINES, ANSWERS, "--journal", LINES],
+        2,
+        b"",
+        b"fault: JOURNAL: same file as IN0\n",
+    ),
+    (
+        &["desk", CART, MOVIE, LINES, GONE, "--journal", GONE],
+        2,
+        b"",
+        b"fault: JOURNAL: same file as OUT0\n",
+    ),
+    (
+        &["desk", CART, MOVIE, LINES, ANSWERS, "--journal", NOWHERE],
+        1,
+        b"",
+        NOT_CREATED,
+    ),
+    (
+        &["desk", CART, MOVIE, LINES, ANSWERS, "--journal", DANGLING],
+        1,
+        b"",
+        NOT_CREATED,
+    ),
+    (
+        &["desk", CART, MOVIE, LINES, ANSWERS, "--journal", NIGHT],
+        0,
+        ONE_FRAME,
+        b"",
+    ),
 ];
 
 fn make<R: Files + Abort>(rt: &R, name: &str, bytes: &[u8]) {
@@ -167,6 +216,8 @@ fn journals_are_new_files(rt: HostRuntime) {
     make(&rt, CART, game.as_slice());
     make(&rt, MOVIE, TWO_FRAMES);
     make(&rt, BLANK, b"");
+    make(&rt, LINES, b"delete 1 1\n");
+    make(&rt, ANSWERS, b"");
     expect_ok(&rt, fs::hard_link(&rt, MOVIE, HARD));
     expect_ok(&rt, symlink(&rt, "movie", LINK));
     expect_ok(&rt, symlink(&rt, "nothing", DANGLING));
@@ -179,13 +230,16 @@ fn journals_are_new_files(rt: HostRuntime) {
     check_file(&rt, SAVED, ONE_FRAME);
     check_none(&rt, GONE);
     check_none(&rt, "real_journal/nothing");
-    let journal = expect_ok(&rt, fs::read(&rt, DAY));
+    check_file(&rt, ANSWERS, b"edit 3 len 1\n");
     let again = (
         ["recover", CART].as_slice(),
         0,
         ONE_FRAME,
         b"recovered: 1 edits\n".as_slice(),
     );
-    check_case(&rt, alloc, journal.as_slice(), again);
+    for name in [DAY, NIGHT] {
+        let journal = expect_ok(&rt, fs::read(&rt, name));
+        check_case(&rt, alloc, journal.as_slice(), again);
+    }
     expect_ok(&rt, fs::remove_dir_all(&rt, PLACE));
 }

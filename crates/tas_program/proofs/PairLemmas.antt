@@ -1,5 +1,5 @@
 -- The pairs of a desk, and the ends of their doors.
-use Rattle.std.proofs.Common.{◌≡◌, ℕ, ◌<◌, ◌+◌, List, [], ◌∷◌, ◌++◌, Option, Some, None, Result, Err, inl, subst, All, arith, length, map, take, get_or, append-nil, refl, sym, ap, ◌∙◌}
+use Rattle.std.proofs.Common.{◌≡◌, ℕ, ◌<◌, ◌≤◌, ◌+◌, Bool, List, [], ◌∷◌, ◌++◌, Option, Some, None, Result, Err, inl, inr, subst, All, arith, length, map, take, get_or, append-nil, refl, sym, ap, ◌∙◌}
 use Rattle.std.proofs.lemmas.List.{map-append, take_more}
 use Rattle.std.proofs.lemmas.List.Elements.{All-head, All-push, All-tail, filter_map-append}
 use Rattle.std.specs.List.{cons_option, filter_map}
@@ -10,15 +10,26 @@ use Rattle.tas_engines.specs.declared.fault.ReadFault.TheVariants.{Memory}
 use Rattle.tas_engines.specs.declared.fault.ToolFault.{ToolFault}
 use Rattle.tas_engines.specs.declared.fault.ToolFault.TheVariants.{Read}
 use Rattle.tas_seat.specs.Lines.{DoorFacts, DoorEnds, end_facts}
+use Rattle.clap.specs.Walk.{Text}
+use Rattle.tas_desk.specs.Seats.{most_seats}
 use Rattle.tas_tool.specs.Desks.{IsDeskRun}
+use Rattle.tas_tool.specs.NotedDesks.{IsNotedDeskRun}
+use Rattle.tas_tool.specs.declared.noted_desk_runs.DeskFault.{DeskFault}
+use Rattle.tas_words.specs.declared.task.DeskWords.{DeskWords}
 use Rattle.tas_words.specs.Task.{pairs_in}
 use Rattle.tas_words.specs.declared.task.Pair.{Pair}
 use Rattle.tas_words.specs.declared.task.Pairs.{Pairs}
 use Rattle.tas_program.specs.declared.folder.OrdinaryFile.{OrdinaryFile}
-use Rattle.tas_program.specs.Files.{files_by}
-use Rattle.tas_program.specs.Program.{EndsOver, OverTwo, IsDeskTask, ends_by, ends_of}
+use Rattle.tas_program.specs.Files.{ends_by, ends_of, files_by}
+use Rattle.tas_program.specs.Noting.{NotesDoors, desk_end, from_doors}
+use Rattle.tas_program.specs.declared.file_words.WordFault.{WordFault}
+use Rattle.tas_program.specs.FileWords.{fault_or, journal_fault, seat_fault}
+use Rattle.tas_program.specs.Program.{EndsOver, OverTwo, IsDeskTask}
+use Rattle.tas_program.specs.Saving.{FileSteps}
+use Rattle.tas_program.specs.declared.status.TaskFault.{TaskFault}
 use Rattle.tas_program.specs.Streams.{StreamBytes}
-use Rattle.tas_program.proofs.DoorEndLemmas.{desk_run_ends, door_ends}
+use Rattle.tas_program.proofs.DoorEndLemmas.{desk_run_ends, door_ends, noted_run_ends}
+use Rattle.tas_program.proofs.NotedLemmas.{made_into}
 use Rattle.tas_program.proofs.ProgramLemmas.{over_two}
 
 -- the pairs of the places up to this one
@@ -70,3 +81,43 @@ no_doors ends one two file file' old is is' =
     unread : (known : Option (List ℕ)) → Consumes known known []
     unread None = tt
     unread (Some bytes) = refl
+
+-- ---- a journal
+
+-- no more pairs than places
+few_pairs : (places : List (Option Pair)) → length (filter_map (λ pair. pair) places) ≤ length places
+few_pairs [] = omega arith
+few_pairs (None ∷ places) = omega (arith, few_pairs places)
+few_pairs (Some pair ∷ places) = omega (arith, few_pairs places)
+
+-- without an eighth pair there is a seat more
+fewer_pairs : (pairs : Pairs) → pairs.eighth ≡ None → length (pairs_in pairs) < most_seats
+fewer_pairs pairs none =
+    let seven : List (Option Pair) = Some pairs.first ∷ pairs.second ∷ pairs.third ∷ pairs.fourth ∷ pairs.fifth ∷ pairs.sixth ∷ pairs.seventh ∷ [] in
+    let cut : pairs_in pairs ≡ filter_map (λ pair. pair) seven = filter_map-append (λ pair. pair) seven (pairs.eighth ∷ [])
+    ∙ ap (λ (p : Option Pair). filter_map (λ pair. pair) seven ++ filter_map (λ pair. pair) (p ∷ [])) none ∙ append-nil (filter_map (λ pair. pair) seven) in
+    let most : length (filter_map (λ pair. pair) seven) ≤ 7 = few_pairs seven in
+    subst (λ (l : List Pair). length l < most_seats) (sym cut) (omega (arith, most))
+
+-- so there is where a desk's journal has no fault
+no_eighth : (eighth : Option Pair) (later : Option WordFault) → fault_or (seat_fault eighth) later ≡ None → eighth ≡ None
+no_eighth None later right = refl
+no_eighth (Some pair) later right = absurd (cc right)
+
+pub seat_left : (words : DeskWords) (journal : Text) → journal_fault words journal ≡ None → length (pairs_in words.pairs) < most_seats
+seat_left words journal right = fewer_pairs words.pairs (no_eighth words.pairs.eighth _ right)
+
+-- a desk was run over two files and the ends of these doors, with a journal that was made
+pub noted_over : {D : Type 0} (facts : DoorFacts D) (steps : FileSteps) (journal name : Text) (doors doors' : List D) (ends : List DoorEnds) (cart cart' movie movie' held held' made : Option (List ℕ)) (old new : StreamBytes) (begun : Bool) (done : Result (Unit {0}) DeskFault) (end : Result (Unit {0}) TaskFault)
+    → steps.made journal made → held ≡ made → end ≡ desk_end done → new.input ≡ old.input → map (door_ends facts) doors ≡ ends → journal ≡ name
+    → IsNotedDeskRun GlobalType facts (steps.kept name) doors doors' held held' cart cart' movie movie' old.output new.output begun done → NotesDoors steps journal ends cart movie old new end
+noted_over facts steps journal name doors doors' ends cart cart' movie movie' held held' made old new begun done end makes same is unread are named ran =
+    let over = subst (λ (l : List DoorEnds). IsNotedDeskRun GlobalType end_facts (steps.kept name) l l held held' cart cart' movie movie' old.output new.output begun done) are
+    (noted_run_ends facts (steps.kept name) doors doors' held held' cart cart' movie movie' old.output new.output begun done ran) in
+    inr (made_into steps journal desk_end (from_doors ends cart movie) held held' made old new done end makes same is name named (unread, (cart', movie', begun, over)))
+
+-- two files that were opened
+pub noted_from : (steps : FileSteps) (journal : Text) (ends : List DoorEnds) (one two file file' : Option (List ℕ)) (old new : StreamBytes) (end : Result (Unit {0}) TaskFault) → file ≡ one → file' ≡ two
+    → NotesDoors steps journal ends file file' old new end → NotesDoors steps journal ends one two old new end
+noted_from steps journal ends one two file file' old new end is is' notes =
+    subst (λ (f : Option (List ℕ)). NotesDoors steps journal ends one f old new end) is' (subst (λ (f : Option (List ℕ)). NotesDoors steps journal ends f file' old new end) is notes)

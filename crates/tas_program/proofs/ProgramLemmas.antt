@@ -15,9 +15,9 @@ use Rattle.tas_words.specs.declared.invocation.Invocation.{Invocation}
 use Rattle.tas_words.specs.declared.invocation.Invocation.TheVariants.{Do, Save, Show, Refuse, NoMemory}
 use Rattle.tas_words.specs.declared.task.Task.{Task}
 use Rattle.tas_words.specs.Invocations.{AreGiven, IsInvocation, IsNoTask}
-use Rattle.tas_program.specs.Program.{IsAskedBy, end_status, OneFileRun, TwoFilesRun, FilesRun, EndsOver, OverOne, OverTwo, IsRunOfFiles, IsSaveRun, IsTaskRun, RunsAfter, TaskEnds, talk_of}
+use Rattle.tas_program.specs.Program.{IsAskedBy, end_status, OneFileRun, TwoFilesRun, FilesRun, EndsOver, OverOne, OverTwo, IsRunOfFiles, IsSaveRun, IsTaskRun, RunsAfter, TaskEnds, desk_of, talk_of}
 use Rattle.tas_program.specs.declared.status.TaskFault.{TaskFault}
-use Rattle.tas_program.specs.declared.status.TaskFault.TheVariants.{Word, Tool, Search as NotSearched, Recover as NotRecovered, Verify as NotVerified, NoCarts, NotAll, Report, NoReport, UnsyncedReport, NoJournal, Journal as NotNoted, Save as NotSaved}
+use Rattle.tas_program.specs.declared.status.TaskFault.TheVariants.{Word, Tool, Search as NotSearched, Recover as NotRecovered, Verify as NotVerified, NoCarts, NotAll, Report, NoReport, UnsyncedReport, NoJournal, Journal as NotNoted, SeatJournal, Save as NotSaved}
 use Rattle.tas_program.specs.declared.file_words.Permit.{Permit}
 use Rattle.tas_program.specs.declared.file_words.WordFault.{WordFault}
 use Rattle.tas_program.specs.FileWords.{WordsEnd, first_fault}
@@ -53,11 +53,12 @@ task_ends steps files chosen old new (Err NoReport) ran = (NoReport, tt, ran)
 task_ends steps files chosen old new (Err UnsyncedReport) ran = (UnsyncedReport, tt, ran)
 task_ends steps files chosen old new (Err NoJournal) ran = (NoJournal, tt, ran)
 task_ends steps files chosen old new (Err (NotNoted fault)) ran = (NotNoted fault, tt, ran)
+task_ends steps files chosen old new (Err (SeatJournal seat fault)) ran = (SeatJournal seat fault, tt, ran)
 task_ends steps files chosen old new (Err (NotSaved fault)) (seen, are, ran) = absurd (go (first_fault seen) ran)
   where
     go : (word : Option WordFault) → RunsAfter steps files chosen word old new (Err (NotSaved fault)) → ⊥
     go (Some word) (is, same) = cc
-    go None ended = no_save_fault steps files (reported_of chosen) (talk_of chosen) chosen old new fault ended
+    go None ended = no_save_fault steps files (reported_of chosen) (talk_of chosen) (desk_of chosen) chosen old new fault ended
 
 -- a run ended over a file that was opened
 pub over_one : (ran : OneFileRun) (one file left : Option (List ℕ)) (old new : StreamBytes) (end : Result (Unit {0}) ToolFault) → file ≡ one

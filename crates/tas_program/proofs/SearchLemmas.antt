@@ -26,13 +26,14 @@ use Rattle.tas_journal.specs.RecoveryRun.{IsRecoveryRun}
 use Rattle.std.specs.Global.{Global as GlobalType}
 use Rattle.tas_program.specs.Reporting.{ReportedEnds, reported_of}
 use Rattle.tas_program.specs.Files.{FileBytes}
-use Rattle.tas_program.specs.Program.{DoesTask, EngineEnds, LeavesWords, talk_of, tool_end}
-use Rattle.tas_program.proofs.NotedLemmas.{no_talk_fault}
+use Rattle.tas_program.specs.Program.{DeskWordsEnd, DoesTask, EngineEnds, LeavesWords, desk_of, talk_of, tool_end}
+use Rattle.tas_program.proofs.NotedLemmas.{no_desk_fault, no_talk_fault}
 use Rattle.tas_program.proofs.VerifyLemmas.{no_verify_fault}
 use Rattle.tas_movie.specs.Content.{MovieContent}
+use Rattle.tas_words.specs.declared.task.DeskWords.{DeskWords}
 use Rattle.tas_words.specs.declared.task.TalkWords.{TalkWords}
 use Rattle.tas_program.specs.Saving.{FileSteps}
-use Rattle.tas_program.specs.Searching.{BreaksOff, KeepsFile, KeepsReport, Reports, ReportsVerdict, RunsSearch, SearchEnds, Searches, SearchesOver, bytes_end, search_end, search_files}
+use Rattle.tas_program.specs.Searching.{BreaksOff, KeepsFile, KeepsReport, Reports, ReportsVerdict, RunsSearch, SearchEnds, Searches, SearchesOver, bytes_end, search_files}
 use Rattle.tas_program.specs.Streams.{StreamBytes}
 
 -- the same end of a run, its verdict as bytes
@@ -62,18 +63,22 @@ pub recovered : (files : FileBytes) (words : RecoveryWords) (cart left : Option 
     → RecoversOver words.until cart left old.input new.input old.output new.output end → Recovers files words old new end
 recovered files words cart left old new end is ran = inr (left, subst (λ (c : Option (List ℕ)). RecoversOver words.until c left old.input new.input old.output new.output end) is ran)
 
--- the engine of a task that reports, a conversation, and the engine of any other task
+-- the engine of a task that reports, a conversation, a desk, and the engine of any other task
 pub ends_reported : (steps : FileSteps) (files : FileBytes) (chosen : Task) (words : Reported) (told told' : Option (List ℕ)) (old new : StreamBytes) (end : Result (Unit {0}) TaskFault) → reported_of chosen ≡ Some words
-    → ReportedEnds steps files words old new told told' end → EngineEnds steps files (reported_of chosen) (talk_of chosen) chosen old new end
-ends_reported steps files chosen words told told' old new end is ends = subst (λ (o : Option Reported). EngineEnds steps files o (talk_of chosen) chosen old new end) (sym is) (told, told', ends)
+    → ReportedEnds steps files words old new told told' end → EngineEnds steps files (reported_of chosen) (talk_of chosen) (desk_of chosen) chosen old new end
+ends_reported steps files chosen words told told' old new end is ends = subst (λ (o : Option Reported). EngineEnds steps files o (talk_of chosen) (desk_of chosen) chosen old new end) (sym is) (told, told', ends)
 
 pub ends_talk : (steps : FileSteps) (files : FileBytes) (chosen : Task) (words : TalkWords) (left : Option MovieContent) (old new : StreamBytes) (end : Result (Unit {0}) TaskFault) → reported_of chosen ≡ None → talk_of chosen ≡ Some words
-    → LeavesWords steps files words left old new end → EngineEnds steps files (reported_of chosen) (talk_of chosen) chosen old new end
+    → LeavesWords steps files words left old new end → EngineEnds steps files (reported_of chosen) (talk_of chosen) (desk_of chosen) chosen old new end
 ends_talk steps files chosen words left old new end is talk leaves = rw (is, talk) (left, leaves)
 
-pub ends_other : (steps : FileSteps) (files : FileBytes) (chosen : Task) (old new : StreamBytes) (done : Result (Unit {0}) ToolFault) (end : Result (Unit {0}) TaskFault) → reported_of chosen ≡ None → talk_of chosen ≡ None → end ≡ tool_end done
-    → DoesTask files chosen old new done → EngineEnds steps files (reported_of chosen) (talk_of chosen) chosen old new end
-ends_other steps files chosen old new done end is talk e does = rw (is, talk) (done, e, does)
+pub ends_desk : (steps : FileSteps) (files : FileBytes) (chosen : Task) (words : DeskWords) (old new : StreamBytes) (end : Result (Unit {0}) TaskFault) → reported_of chosen ≡ None → talk_of chosen ≡ None → desk_of chosen ≡ Some words
+    → DeskWordsEnd steps files words old new end → EngineEnds steps files (reported_of chosen) (talk_of chosen) (desk_of chosen) chosen old new end
+ends_desk steps files chosen words old new end is talk desk ends = rw (is, talk, desk) ends
+
+pub ends_other : (steps : FileSteps) (files : FileBytes) (chosen : Task) (old new : StreamBytes) (done : Result (Unit {0}) ToolFault) (end : Result (Unit {0}) TaskFault) → reported_of chosen ≡ None → talk_of chosen ≡ None → desk_of chosen ≡ None → end ≡ tool_end done
+    → DoesTask files chosen old new done → EngineEnds steps files (reported_of chosen) (talk_of chosen) (desk_of chosen) chosen old new end
+ends_other steps files chosen old new done end is talk desk e does = rw (is, talk, desk) (done, e, does)
 
 -- a report ends with no fault of a file that was to be replaced, where what is reported doesn't
 not_reported : (done : Result (List ℕ) TaskFault) (fault : SaveFault) (told told' : Option (List ℕ)) → (done ≡ Err (NotSaved fault) → ⊥) → Reports done told told' (Err (NotSaved fault)) → ⊥
@@ -110,15 +115,16 @@ no_kept_fault steps (Some name) held' (Ok u) fault none (inr is) = cc
 no_kept_fault steps (Some name) held' (Err other) fault none is = none (sym is)
 
 -- no engine ends with a fault of a file that was to be replaced
-pub no_save_fault : (steps : FileSteps) (files : FileBytes) (asked : Option Reported) (talk : Option TalkWords) (chosen : Task) (old new : StreamBytes) (fault : SaveFault) → EngineEnds steps files asked talk chosen old new (Err (NotSaved fault)) → ⊥
-no_save_fault steps files None None chosen old new fault (Ok u, is, does) = cc
-no_save_fault steps files None None chosen old new fault (Err other, is, does) = cc
-no_save_fault steps files None (Some words) chosen old new fault (left, leaves) = no_talk_fault steps files words.start words.journal left old new fault leaves
-no_save_fault steps files (Some (reported.Search words)) talk chosen old new fault (told, told', inl none) = other_end none.is
+pub no_save_fault : (steps : FileSteps) (files : FileBytes) (asked : Option Reported) (talk : Option TalkWords) (desk : Option DeskWords) (chosen : Task) (old new : StreamBytes) (fault : SaveFault) → EngineEnds steps files asked talk desk chosen old new (Err (NotSaved fault)) → ⊥
+no_save_fault steps files None None (Some words) chosen old new fault ends = no_desk_fault steps files words words.journal old new fault ends
+no_save_fault steps files None None None chosen old new fault (Ok u, is, does) = cc
+no_save_fault steps files None None None chosen old new fault (Err other, is, does) = cc
+no_save_fault steps files None (Some words) desk chosen old new fault (left, leaves) = no_talk_fault steps files words.start words.journal left old new fault leaves
+no_save_fault steps files (Some (reported.Search words)) talk desk chosen old new fault (told, told', inl none) = other_end none.is
   where
     other_end : ◌≡◌ {A = Result (Unit {0}) TaskFault} (Err (NotSaved fault)) (Err NoReport) → ⊥
     other_end e = cc
-no_save_fault steps files (Some (reported.Search words)) talk chosen old new fault (told, told', inr into) =
+no_save_fault steps files (Some (reported.Search words)) talk desk chosen old new fault (told, told', inr into) =
     no_kept_fault steps words.report into.held' into.done fault
     (no_verdict into.ends)
     into.kept
@@ -127,9 +133,9 @@ no_save_fault steps files (Some (reported.Search words)) talk chosen old new fau
     no_verdict ends is =
         no_verdict_fault ends.done fault ends.mid (log_bytes told' into.held') (no_search_fault files words old new (log_bytes told into.held) ends.mid ends.done fault ends.searches)
         (subst (λ (e : Result (Unit {0}) TaskFault). ReportsVerdict ends.done ends.mid (log_bytes told' into.held') e) is ends.reports)
-no_save_fault steps files (Some (reported.Recovery words)) talk chosen old new fault (told, told', ends) =
+no_save_fault steps files (Some (reported.Recovery words)) talk desk chosen old new fault (told, told', ends) =
     not_reported ends.done fault told told' (no_recovery_fault files words old new ends.done fault ends.recovers) ends.reports
-no_save_fault steps files (Some (reported.Verification words)) talk chosen old new fault (told, told', ends) = no_verify_fault files.read words.carts old new fault ends
+no_save_fault steps files (Some (reported.Verification words)) talk desk chosen old new fault (told, told', ends) = no_verify_fault files.read words.carts old new fault ends
 
 -- ---- the file of a report
 

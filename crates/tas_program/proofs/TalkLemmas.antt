@@ -13,7 +13,7 @@ use Rattle.tas_program.specs.declared.status.TaskFault.{TaskFault}
 use Rattle.tas_program.specs.OutputWords.{OutputEnds}
 use Rattle.tas_program.specs.declared.saving.SaveFault.{SaveFault}
 use Rattle.tas_program.specs.Saving.{AllStay, Files, FileSteps, SaveEnds, WhereKnown}
-use Rattle.tas_program.specs.Program.{FilesRun, IsSaveRun, LeavesOver, LeavesTalk, OverOne, OverTwo, SavesBy, SavesTalk, SavesTask, talk_of}
+use Rattle.tas_program.specs.Program.{FilesRun, IsSaveRun, LeavesOver, OverOne, OverTwo, SavesBy, SavesTalk, SavesTask, talk_of}
 use Rattle.tas_program.specs.Files.{FileBytes}
 use Rattle.tas_program.specs.Streams.{StreamBytes}
 

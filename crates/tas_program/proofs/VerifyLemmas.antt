@@ -1,20 +1,17 @@
 -- Verifications.
-use Rattle.std.proofs.Common.{◌≡◌, ℕ, List, [], ◌∷◌, ◌++◌, length, All, ◌<◌, ◌⊎◌, Option, None, Some, Result, Ok, Err, inl, inr, refl, sym, ap, subst, ◌∙◌}
+use Rattle.std.proofs.Common.{◌≡◌, ℕ, List, [], ◌∷◌, ◌++◌, length, All, ◌<◌, Option, None, Some, Result, Ok, Err, inl, inr, sym, subst}
 use Rattle.std.specs.Prelude.{Bool, true, false, if◌then◌else◌, ◌==◌, slice_index_or}
 use Rattle.std.specs.Borrow.{Bor}
 use Rattle.std.proofs.lemmas.List.Elements.{All-push}
 use Rattle.byte_text.specs.Splitting.{NoByte}
 use Rattle.byte_text.proofs.SplitLemmas.{no_parts}
 use Rattle.tas_verify.specs.declared.carts.Cart.{Cart}
-use Rattle.tas_verify.specs.declared.fault.VerifyFault.{VerifyFault}
-use Rattle.tas_verify.specs.declared.lines.Tally.{Tally}
 use Rattle.tas_verify.specs.Rows.{ShelfFacts}
-use Rattle.tas_verify.specs.Verifying.{IsVerifyRun}
 use Rattle.tas_program.specs.declared.saving.SaveFault.{SaveFault}
 use Rattle.tas_program.specs.declared.status.TaskFault.{TaskFault}
 use Rattle.tas_program.specs.declared.status.TaskFault.TheVariants.{Save as NotSaved, NotAll}
 use Rattle.tas_program.specs.Streams.{StreamBytes}
-use Rattle.tas_program.specs.Verifying.{AreIn, IsIn, IsMore, IsUnlisted, VerifiesBy, VerifiesIn, VerifiesWith, shelf_by, verified_end}
+use Rattle.tas_program.specs.Verifying.{AreIn, IsIn, IsMore, IsUnlisted, VerifiesBy, VerifiesIn, VerifiesWith, shelf_by}
 
 -- a verification ends with no fault of a file that was to be replaced
 counted_end : (same : Bool) (fault : SaveFault) → ◌≡◌ {A = Result (Unit {0}) TaskFault} (Err (NotSaved fault)) (if same then Ok tt else Err NotAll) → ⊥

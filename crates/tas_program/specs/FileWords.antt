@@ -2,11 +2,12 @@
 use Rattle.std.specs.Prelude.{◌≡◌, ℕ, Bool, true, false, ◌&&◌, if◌then◌else◌, nat_eq, nat_lt, codes, List, [], ◌∷◌, ◌++◌, map, All, Option, Some, None, option_map, slice_get, Result, Ok, Err}
 use Rattle.tas_words.specs.declared.task.Pair.{Pair}
 use Rattle.tas_words.specs.declared.task.Pairs.{Pairs}
+use Rattle.tas_words.specs.declared.task.DeskWords.{DeskWords}
 use Rattle.tas_words.specs.declared.task.TalkWords.{TalkWords}
 use Rattle.tas_words.specs.declared.task.Task.{Task}
 use Rattle.tas_words.specs.declared.task.Task.TheVariants.{Talk, Desk}
 use Rattle.std.specs.Option.{option_flatten}
-use Rattle.std.specs.Borrow.{Bor}
+use Rattle.std.specs.Str.{bytes_eq}
 use Rattle.tas_words.specs.declared.task.Start.{Start}
 use Rattle.tas_words.specs.declared.task.Start.TheVariants.{Blank, Cart, Movie}
 use Rattle.tas_program.specs.declared.folder.OrdinaryFile.{OrdinaryFile}
@@ -15,7 +16,7 @@ use Rattle.tas_program.specs.declared.file_words.FileWord.TheVariants.{Cart as C
 use Rattle.tas_program.specs.declared.file_words.SeenWord.{SeenWord}
 use Rattle.tas_program.specs.declared.file_words.Permit.{Permit}
 use Rattle.tas_program.specs.declared.file_words.WordFault.{WordFault}
-use Rattle.tas_program.specs.declared.file_words.WordFault.TheVariants.{SameFile, NotEmpty, Exists}
+use Rattle.tas_program.specs.declared.file_words.WordFault.TheVariants.{SameFile, NotEmpty, Exists, NoSeat}
 
 -- all words in their order: those of the command line, and then the streams
 abbrev pub words : List FileWord
@@ -46,18 +47,19 @@ talk_name talk Output = Some (codes "/dev/stdout")
 talk_name talk word = None
 
 -- the same of a desk, which doesn't read standard input
-abbrev pub desk_name : Bor (List ℕ) → Bor (List ℕ) → Pairs → FileWord → Option (List ℕ)
-desk_name cart movie pairs CartWord = Some cart.now
-desk_name cart movie pairs MovieWord = Some movie.now
-desk_name cart movie pairs (In k) = option_map (λ pair. pair.input.now) (pair_at pairs k)
-desk_name cart movie pairs (Out k) = option_map (λ pair. pair.output.now) (pair_at pairs k)
-desk_name cart movie pairs Output = Some (codes "/dev/stdout")
-desk_name cart movie pairs word = None
+abbrev pub desk_name : DeskWords → FileWord → Option (List ℕ)
+desk_name desk CartWord = Some desk.cart.now
+desk_name desk MovieWord = Some desk.movie.now
+desk_name desk (In k) = option_map (λ pair. pair.input.now) (pair_at desk.pairs k)
+desk_name desk (Out k) = option_map (λ pair. pair.output.now) (pair_at desk.pairs k)
+desk_name desk JournalWord = option_map (λ name. name.now) desk.journal
+desk_name desk Output = Some (codes "/dev/stdout")
+desk_name desk word = None
 
 -- the same of each task; other tasks read their inputs whole before they write, so their files aren't looked at
 abbrev pub name_of : Task → FileWord → Option (List ℕ)
 name_of (Talk talk) word = talk_name talk word
-name_of (Desk cart movie pairs) word = desk_name cart movie pairs word
+name_of (Desk desk) word = desk_name desk word
 name_of chosen word = None
 
 -- an ordinary file, or none, is what is known to be there, where something is known
@@ -129,6 +131,34 @@ fault_from others (word ∷ later) = fault_or (word_fault others word) (fault_fr
 -- the fault of the first word at fault
 abbrev pub first_fault : List SeenWord → Option WordFault
 first_fault seen = fault_from [] seen
+
+-- ---- the journal of a desk
+
+-- the words of its pairs
+abbrev pub pair_words : List FileWord
+pair_words = In 0 ∷ Out 0 ∷ In 1 ∷ Out 1 ∷ In 2 ∷ Out 2 ∷ In 3 ∷ Out 3 ∷ In 4 ∷ Out 4 ∷ In 5 ∷ Out 5 ∷ In 6 ∷ Out 6 ∷ In 7 ∷ Out 7 ∷ []
+
+-- a word stands for a file of this name
+abbrev pub has_text : Option (List ℕ) → List ℕ → Bool
+has_text None name = false
+has_text (Some said) name = bytes_eq said name
+
+-- the first of these words of a desk that does
+abbrev pub first_named : DeskWords → List ℕ → List FileWord → Option FileWord
+first_named desk name [] = None
+first_named desk name (word ∷ others) = if has_text (desk_name desk word) name then Some word else first_named desk name others
+
+-- the journal takes a seat, so that an eighth pair has none
+abbrev pub seat_fault : Option Pair → Option WordFault
+seat_fault None = None
+seat_fault (Some pair) = Some NoSeat
+
+-- what is wrong with the words of a desk whose journal has this name: there is an eighth pair; or a pair's file has this name, too. Neither file need be
+-- there yet, so that names are compared
+abbrev pub journal_fault : DeskWords → List ℕ → Option WordFault
+journal_fault desk name = fault_or (seat_fault desk.pairs.eighth) (option_map (λ word. SameFile JournalWord word) (first_named desk name pair_words))
+
+-- ---- the first fault
 
 -- a permit is given where no word is at fault; else the first fault is returned
 abbrev pub fault_in : Result Permit WordFault → Option WordFault

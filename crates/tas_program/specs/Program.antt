@@ -1,5 +1,5 @@
 -- How the program ends: what it writes, and its status.
-use Rattle.std.specs.Prelude.{◌≡◌, ℕ, max, min, map, List, [], ◌∷◌, ◌⊎◌, Option, Some, None, Result, Ok, Err, String, string_bytes}
+use Rattle.std.specs.Prelude.{◌≡◌, ℕ, max, min, List, [], ◌∷◌, ◌⊎◌, Option, Some, None, Result, Ok, Err, String, string_bytes}
 use Rattle.std.specs.declared.vec.IntoIter.{IntoIter}
 use Rattle.std.specs.declared.io.Error.{Error}
 use Rattle.std.specs.Io.KnownBytes.{Appends}
@@ -33,9 +33,7 @@ use Rattle.tas_engines.specs.Cutting.{IsCutAnswer}
 use Rattle.std.specs.Global.{Global as GlobalType}
 use Rattle.tas_seat.specs.Lines.{DoorEnds, end_facts}
 use Rattle.tas_tool.specs.Desks.{IsDeskRun}
-use Rattle.tas_words.specs.Task.{pairs_in}
-use Rattle.tas_words.specs.declared.task.Pair.{Pair}
-use Rattle.tas_words.specs.declared.task.Pairs.{Pairs}
+use Rattle.tas_words.specs.declared.task.DeskWords.{DeskWords}
 use Rattle.tas_words.specs.declared.invocation.Invocation.{Invocation}
 use Rattle.tas_words.specs.declared.invocation.Invocation.TheVariants.{Do, Save, Show, Refuse, NoMemory}
 use Rattle.tas_program.specs.declared.status.Status.{Status}
@@ -49,7 +47,7 @@ use Rattle.tas_words.specs.declared.task.Start.TheVariants.{Blank, Cart, Movie}
 use Rattle.clap.specs.Walk.{Text}
 use Rattle.tas_words.specs.Invocations.{AreGiven, IsInvocation}
 use Rattle.tas_program.specs.declared.status.TaskFault.{TaskFault}
-use Rattle.tas_program.specs.declared.status.TaskFault.TheVariants.{Word, Tool, Search as NotSearched, Recover as NotRecovered, Verify as NotVerified, NoCarts, NotAll, Report, NoReport, UnsyncedReport, NoJournal, Journal as NotNoted, Save as NotSaved}
+use Rattle.tas_program.specs.declared.status.TaskFault.TheVariants.{Word, Tool, Search as NotSearched, Recover as NotRecovered, Verify as NotVerified, NoCarts, NotAll, Report, NoReport, UnsyncedReport, NoJournal, Journal as NotNoted, SeatJournal, Save as NotSaved}
 use Rattle.tas_program.specs.declared.file_words.WordFault.{WordFault}
 use Rattle.tas_program.specs.declared.file_words.SeenWord.{SeenWord}
 use Rattle.tas_program.specs.declared.saving.SaveFault.{SaveFault}
@@ -57,8 +55,8 @@ use Rattle.tas_program.specs.declared.folder.OrdinaryFile.{OrdinaryFile}
 use Rattle.tas_program.specs.FileWords.{AreSeen, IsSeen, fault_or, first_fault}
 use Rattle.tas_program.specs.OutputWords.{AreInputsSeen, output_fault}
 use Rattle.tas_program.specs.Saving.{Files, FileSteps, SaveEnds}
-use Rattle.tas_program.specs.Noting.{NotesTalk}
-use Rattle.tas_program.specs.Files.{FileBytes}
+use Rattle.tas_program.specs.Noting.{NotesDesk, NotesTalk}
+use Rattle.tas_program.specs.Files.{FileBytes, ends_of}
 use Rattle.tas_program.specs.Reporting.{ReportedEnds, reported_of}
 use Rattle.tas_program.specs.declared.searching.Reported.{Reported}
 use Rattle.tas_journal.specs.declared.fault.RecoveryFault.{RecoveryFault}
@@ -88,6 +86,7 @@ end_status (Err NoReport) = Fault
 end_status (Err UnsyncedReport) = Fault
 end_status (Err NoJournal) = Fault
 end_status (Err (NotNoted fault)) = Fault
+end_status (Err (SeatJournal seat fault)) = Fault
 end_status (Err (NotSaved fault)) = Fault
 
 -- what runs over files and the streams: what the files have and what is left of them, and the bytes of the input and of the output, before and after
@@ -119,19 +118,11 @@ OverTwo ran _ _ input input' output output' end = ⊥
 abbrev pub IsRunOfFiles : Answers → FilesRun
 IsRunOfFiles answers files left input input' output output' end = (input' ≡ input) × IsRunOn answers files left output output' end
 
--- the ends of a desk's pair: the bytes of its first file, and those that its second one holds
-abbrev pub ends_by : FileBytes → Pair → DoorEnds
-ends_by files pair = record { given = files.read pair.input.now; held = files.held pair.output.now }
-
--- those of its pairs, in order
-abbrev pub ends_of : FileBytes → Pairs → List DoorEnds
-ends_of files pairs = map (ends_by files) (pairs_in pairs)
-
 -- a desk whose doors have these ends, over a cartridge and a movie; it reads nothing of the input
 abbrev pub IsDeskTask : List DoorEnds → TwoFilesRun
 IsDeskTask ends cart cart' movie movie' input input' output output' end = (input' ≡ input) × IsDeskRun GlobalType end_facts ends ends cart cart' movie movie' output output' end
 
--- a task that reports nothing, and is no conversation, ends as the definition of its command says, over its files and the streams
+-- a task that reports nothing, and holds no conversation, ends as the definition of its command says, over its files and the streams
 abbrev pub DoesTask : FileBytes → Task → StreamBytes → StreamBytes → Result (Unit {0}) ToolFault → Type 0
 DoesTask files (Trace n) old new end = EndsOver [] (IsRun (OfOne (λ image. IsTraceAnswer image n))) old new end
 DoesTask files (Check cart) old new end = EndsOver (files.read cart.now ∷ []) (IsRun (OfTwo IsCheckAnswer)) old new end
@@ -155,7 +146,7 @@ DoesTask files (Diff cart before) old new end = EndsOver (files.read cart.now �
 DoesTask files (Script None) old new end = IsScriptRun old.input new.input old.output new.output end
 DoesTask files (Script (Some start)) old new end = EndsOver (files.read start.cart.now ∷ files.read start.movie.now ∷ []) (OverTwo IsMovieScriptRun) old new end
 DoesTask files (Talk words) old new end = ⊥
-DoesTask files (Desk cart movie pairs) old new end = EndsOver (files.read cart.now ∷ files.read movie.now ∷ []) (OverTwo (IsDeskTask (ends_of files pairs))) old new end
+DoesTask files (Desk words) old new end = ⊥
 
 -- the end of a task whose engine was run
 abbrev pub tool_end : Result (Unit {0}) ToolFault → Result (Unit {0}) TaskFault
@@ -188,20 +179,41 @@ LeavesBy steps files start (Some journal) left old new end = NotesTalk steps fil
 abbrev pub LeavesWords : FileSteps → FileBytes → TalkWords → Option MovieContent → StreamBytes → StreamBytes → Result (Unit {0}) TaskFault → Type 0
 LeavesWords steps files words left old new end = LeavesBy steps files words.start words.journal left old new end
 
+-- ---- desks
+
+-- the words of a task's desk, where it is one
+abbrev pub desk_of : Task → Option DeskWords
+desk_of (Desk words) = Some words
+desk_of chosen = None
+
+-- a desk without a journal: its two files are opened first
+abbrev pub DoesDesk : FileBytes → DeskWords → StreamBytes → StreamBytes → Result (Unit {0}) ToolFault → Type 0
+DoesDesk files words old new end = EndsOver (files.read words.cart.now ∷ files.read words.movie.now ∷ []) (OverTwo (IsDeskTask (ends_of files words.pairs))) old new end
+
+-- a desk, with a journal where the words name one, by steps of the folder
+abbrev pub DeskBy : FileSteps → FileBytes → DeskWords → Option (Bor (List ℕ)) → StreamBytes → StreamBytes → Result (Unit {0}) TaskFault → Type 0
+DeskBy steps files words None old new end = (done : Result (Unit {0}) ToolFault) × (end ≡ tool_end done) × DoesDesk files words old new done
+DeskBy steps files words (Some journal) old new end = NotesDesk steps files words journal.now old new end
+
+abbrev pub DeskWordsEnd : FileSteps → FileBytes → DeskWords → StreamBytes → StreamBytes → Result (Unit {0}) TaskFault → Type 0
+DeskWordsEnd steps files words old new end = DeskBy steps files words words.journal old new end
+
 -- ---- any task
 
 -- the engine of a task was run: that of a search, a recovery or a verification, which reports to some writer, of which nothing is said here, the file of a search's
--- report made and brought to the disk by steps of the folder; a conversation was held, its journal's file made by such steps; or that of another task
-abbrev pub EngineEnds : FileSteps → FileBytes → Option Reported → Option TalkWords → Task → StreamBytes → StreamBytes → Result (Unit {0}) TaskFault → Type 0
-EngineEnds steps files (Some words) talk chosen old new end = (told told' : Option (List ℕ)) × ReportedEnds steps files words old new told told' end
-EngineEnds steps files None (Some words) chosen old new end = (left : Option MovieContent) × LeavesWords steps files words left old new end
-EngineEnds steps files None None chosen old new end = (done : Result (Unit {0}) ToolFault) × (end ≡ tool_end done) × DoesTask files chosen old new done
+-- report made and brought to the disk by steps of the folder; a conversation or those of a desk were held, the journal's file made by such steps; or that of
+-- another task
+abbrev pub EngineEnds : FileSteps → FileBytes → Option Reported → Option TalkWords → Option DeskWords → Task → StreamBytes → StreamBytes → Result (Unit {0}) TaskFault → Type 0
+EngineEnds steps files (Some words) talk desk chosen old new end = (told told' : Option (List ℕ)) × ReportedEnds steps files words old new told told' end
+EngineEnds steps files None (Some words) desk chosen old new end = (left : Option MovieContent) × LeavesWords steps files words left old new end
+EngineEnds steps files None None (Some words) chosen old new end = DeskWordsEnd steps files words old new end
+EngineEnds steps files None None None chosen old new end = (done : Result (Unit {0}) ToolFault) × (end ≡ tool_end done) × DoesTask files chosen old new done
 
 -- what is done after the words were looked at: where one is at fault, the task ends with that, and no stream is read or written; else its
 -- engine is run
 abbrev pub RunsAfter : FileSteps → FileBytes → Task → Option WordFault → StreamBytes → StreamBytes → Result (Unit {0}) TaskFault → Type 0
 RunsAfter steps files chosen (Some fault) old new end = (end ≡ Err (Word fault)) × (new ≡ old)
-RunsAfter steps files chosen None old new end = EngineEnds steps files (reported_of chosen) (talk_of chosen) chosen old new end
+RunsAfter steps files chosen None old new end = EngineEnds steps files (reported_of chosen) (talk_of chosen) (desk_of chosen) chosen old new end
 
 -- a task is run: its words are seen as the folder shows their files, and the first one at fault decides
 abbrev pub IsTaskRun : FileSteps → FileBytes → Task → StreamBytes → StreamBytes → Result (Unit {0}) TaskFault → Type 0
@@ -243,7 +255,7 @@ SavedAfter steps (Err fault) name text files files' end = (end ≡ Err (held fau
 pub record SavesTask (steps made : FileSteps) (read : FileBytes) (chosen : Task) (name : List ℕ) (old new : StreamBytes) (files files' : Option Files) (end : Result (Unit {0}) TaskFault) : Type 0 where
   pub done : Result (Unit {0}) TaskFault
   pub text : List ℕ
-  pub does : EngineEnds made read (reported_of chosen) (talk_of chosen) chosen (record { input = old.input; output = Some [] }) (record { input = new.input; output = Some text }) done
+  pub does : EngineEnds made read (reported_of chosen) (talk_of chosen) (desk_of chosen) chosen (record { input = old.input; output = Some [] }) (record { input = new.input; output = Some text }) done
   pub silent : new.output ≡ old.output
   pub saved : SavedAfter steps done name text files files' end
 
@@ -299,6 +311,7 @@ IsEngineFault NoReport = Unit {0}
 IsEngineFault UnsyncedReport = Unit {0}
 IsEngineFault NoJournal = Unit {0}
 IsEngineFault (NotNoted fault) = Unit {0}
+IsEngineFault (SeatJournal seat fault) = Unit {0}
 IsEngineFault _ = ⊥
 
 -- the program's end after a task: done where the task is, else a fault of its engine or of a word

@@ -3,7 +3,7 @@
 //! What the folder shows decides before any file is opened, in the order of the words: a fault names one word. Two
 //! words of a desk that are only read count, too: each is most likely a slip, and a copy of the file serves whoever
 //! means it. Pipes and devices lose nothing and may stand for several words. Standard streams are looked at by their
-//! names in /dev, so that a folder in memory shows them, too. A conversation's JOURNAL must be new: it would go over the bytes
+//! names in /dev, so that a folder in memory shows them, too. A JOURNAL must be new: it would go over the bytes
 //! of a file that is there, and what somebody else's edits left in it would be taken for its own.
 //!
 //! No contract can say that a file wasn't opened, since opening leaves a folder as it was. So `open_to_write` takes a
@@ -11,13 +11,13 @@
 //! reading.
 
 ghost use Rattle.std.specs.Prelude.{◌≡◌, option_map};
-ghost use Rattle.tas_program.specs.FileWords.{AreSeen, IsSeen, WordsEnd, are_same, cart_name, desk_name, first_fault, first_same};
-ghost use Rattle.tas_program.specs.FileWords.{has_bytes, is_pair_output, movie_name, name_of, pair_at, talk_name, there_fault, word_fault};
+ghost use Rattle.tas_program.specs.FileWords.{AreSeen, IsSeen, WordsEnd, are_same, cart_name, desk_name, first_fault, first_named, first_same, has_text};
+ghost use Rattle.tas_program.specs.FileWords.{has_bytes, is_pair_output, journal_fault, movie_name, name_of, pair_at, pair_words, seat_fault, talk_name, there_fault, word_fault};
 
 use crate::{Folder, OrdinaryFile};
 use std::fmt;
 use std::fmt::{Display, Formatter, Write};
-use tas_words::{Pair, Pairs, Start, TalkWords, Task};
+use tas_words::{DeskWords, Pair, Pairs, Start, TalkWords, Task};
 use thiserror::Error;
 
 /// A word that names a file, or a standard stream. Its text is the word's name in the help.
@@ -89,9 +89,13 @@ pub enum WordFault {
         /// The word of that file.
         word: FileWord,
     },
+    /// A desk has an eighth pair and a journal, which would take its seat.
+    #[error("fault: JOURNAL: takes the seat of IN7 and OUT7")]
+    NoSeat,
 }
 
-/// The permit to open files for writing. [`check_words`] makes one where no word of a task is at fault, and nothing else does;
+/// The permit to open files for writing. [`check_words`] makes one where no word of a task is at fault, and nothing else does; that a desk's
+/// journal takes the seat of a pair, or has the name of its file, is looked at after that ([`journal_fault`]).
 /// [`check_output`](crate::check_output) passes it on. It is bound to no task: whoever opens files by it must have asked for the task that
 /// names them.
 #[derive(Clone, Copy)]
@@ -134,6 +138,26 @@ static ALL: [FileWord; WORDS] = [
     FileWord::Journal,
     FileWord::Input,
     FileWord::Output,
+];
+
+/// The words of a desk's pairs, in order.
+static PAIR_WORDS: [FileWord; 16] = [
+    FileWord::In(0),
+    FileWord::Out(0),
+    FileWord::In(1),
+    FileWord::Out(1),
+    FileWord::In(2),
+    FileWord::Out(2),
+    FileWord::In(3),
+    FileWord::Out(3),
+    FileWord::In(4),
+    FileWord::Out(4),
+    FileWord::In(5),
+    FileWord::Out(5),
+    FileWord::In(6),
+    FileWord::Out(6),
+    FileWord::In(7),
+    FileWord::Out(7),
 ];
 
 /// The pair of this number.
@@ -190,21 +214,21 @@ fn in_talk(words: TalkWords<'_>, word: FileWord) -> Option<&str>
 }
 
 /// What a word of a desk stands for.
-fn in_desk<'a>(cart: &'a str, movie: &'a str, pairs: Pairs<'a>, word: FileWord) -> Option<&'a str>
-    ensures { option_map (λ name. name.now) result
-        ≡ desk_name cart.entry movie.entry pairs.entry word }
+fn in_desk<'a>(desk: DeskWords<'a>, word: FileWord) -> Option<&'a str>
+    ensures { option_map (λ name. name.now) result ≡ desk_name desk.entry word }
 {
     match word {
-        FileWord::Cart => Some(cart),
-        FileWord::Movie => Some(movie),
-        FileWord::In(number) => match pair_of(pairs, number) {
+        FileWord::Cart => Some(desk.cart),
+        FileWord::Movie => Some(desk.movie),
+        FileWord::In(number) => match pair_of(desk.pairs, number) {
             Some(pair) => Some(pair.input),
             None => None,
         },
-        FileWord::Out(number) => match pair_of(pairs, number) {
+        FileWord::Out(number) => match pair_of(desk.pairs, number) {
             Some(pair) => Some(pair.output),
             None => None,
         },
+        FileWord::Journal => desk.journal,
         FileWord::Output => Some("/dev/stdout"),
         _ => None,
     }
@@ -216,7 +240,7 @@ fn name_in<'a>(task: Task<'a>, word: FileWord) -> Option<&'a str>
 {
     match task {
         Task::Talk(words) => in_talk(words, word),
-        Task::Desk { cart, movie, pairs } => in_desk(cart, movie, pairs, word),
+        Task::Desk(words) => in_desk(words, word),
         _ => None,
     }
 }
@@ -351,5 +375,54 @@ pub fn check_words<F: Folder>(folder: &F, task: Task<'_>) -> Result<Permit, Word
     match fault_among(&see_all(folder, task)) {
         Some(fault) => Err(fault),
         None => Ok(Permit { _given: () }),
+    }
+}
+
+/// Whether a word stands for a file of this name.
+fn has_text(said: Option<&str>, name: &str) -> bool
+    ensures { result ≡ has_text (option_map (λ text. text.now) said.entry) name.now }
+{
+    match said {
+        Some(said) => said == name,
+        None => false,
+    }
+}
+
+/// The first of these words of a desk that stands for a file of this name.
+fn named_among(words: DeskWords<'_>, others: &[FileWord], name: &str) -> Option<FileWord>
+    ensures { result ≡ first_named words.entry name.now others.now }
+{
+    for other in others {
+        if has_text(in_desk(words, *other), name) {
+            return Some(*other);
+        }
+    }
+    None
+}
+
+/// Why a journal has no seat.
+fn seat_fault(eighth: Option<Pair<'_>>) -> Option<WordFault>
+    ensures { result ≡ seat_fault eighth.entry }
+{
+    match eighth {
+        Some(_) => Some(WordFault::NoSeat),
+        None => None,
+    }
+}
+
+/// What is wrong with the words of a desk whose journal has this name: an eighth pair is there, or a pair's file has the name, too. It must
+/// have been looked at ([`check_words`]) whether an ordinary file of this name is there.
+pub(crate) fn journal_fault(words: DeskWords<'_>, name: &str) -> Option<WordFault>
+    ensures { result ≡ journal_fault words.entry name.now }
+{
+    if let Some(fault) = seat_fault(words.pairs.eighth) {
+        return Some(fault);
+    }
+    match named_among(words, &PAIR_WORDS, name) {
+        Some(other) => Some(WordFault::SameFile {
+            word: FileWord::Journal,
+            other,
+        }),
+        None => None,
     }
 }

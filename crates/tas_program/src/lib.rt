@@ -5,9 +5,11 @@
 //! hands it the real arguments, files and streams; tests hand it others.
 #![tactic(auto)]
 
+mod desks;
 mod directory;
 mod file_words;
 mod folder;
+mod journal_files;
 mod noted_talks;
 mod output_words;
 mod pipes;
@@ -35,8 +37,8 @@ pub use searching::run_search;
 pub use status::{Status, TaskFault};
 pub use streams::Streams;
 pub use tas_words::{
-    Invocation, Order, Pair, PartWords, RecoveryWords, SearchWords, Start, TalkWords, Task,
-    VerifyWords, read_words,
+    DeskWords, Invocation, Order, Pair, PartWords, RecoveryWords, SearchWords, Start, TalkWords,
+    Task, VerifyWords, read_words,
 };
 pub use verifying::run_verify;
 pub use waiting::tell_waiting;

@@ -2,25 +2,24 @@
 //!
 //! CART and MOVIE are opened before the journal's file is made, and a conversation that doesn't begin removes it: so a fault of
 //! theirs leaves no journal, but for a moment in which they are read. The file must be new. One that is there isn't gone on from:
-//! `tas recover` makes its movie, from which a conversation with a new journal can start.
+//! `tas recover` makes its movie, from which a conversation with a new journal can start. A desk's journal is treated alike.
 
-ghost use Rattle.std.specs.Prelude.{◌≡◌, Err, None, IfErr, IfOk};
+ghost use Rattle.std.specs.Prelude.{◌≡◌, Err, None};
 ghost use Rattle.tas_program.specs.Files.{files_by};
 ghost use Rattle.tas_program.specs.Noting.{NotesOver, NotesTalk, from_blank, from_cart, from_movie, noted_end};
 ghost use Rattle.tas_program.specs.Program.{LeavesWords, tool_end};
 
+use crate::journal_files::{FileName, JournalWord, NewFile, new_file};
 use crate::running::{ended, open};
 use crate::saved_talks::{hold_talk, open_two};
 use crate::{Folder, Permit, TaskFault};
 use std::alloc::Allocator;
-use std::io;
 use std::io::{Read, Write};
-use std::marker::{Brand, PhantomData};
+use std::marker::Brand;
 use std::sync::Wait;
 use tas_movie::Movie;
 use tas_tool::{
-    JournalFile, NotedTalk, TalkFault, Talked, noted_cart_talk_run, noted_movie_talk_run,
-    noted_talk_run,
+    NotedTalk, TalkFault, Talked, noted_cart_talk_run, noted_movie_talk_run, noted_talk_run,
 };
 use tas_words::{Start, TalkWords};
 
@@ -31,57 +30,6 @@ pub(crate) struct Held<A: Allocator> {
     pub(crate) end: Result<(), TaskFault>,
     /// The movie that its edits have made; `None` where it didn't begin.
     pub(crate) movie: Option<Movie<A>>,
-}
-
-/// The name of a journal's file. Files of one type have one name, so that what is brought to the disk is known by it.
-trait FileName {
-    ghost use Rattle.clap.specs.Walk.{Text};
-
-    /// The name.
-    ghost name: { Text };
-}
-
-impl FileName for Brand {
-    ghost use Rattle.std.specs.Prelude.{[]};
-
-    ghost name = { [] };
-}
-
-/// The word that names a journal's file. A call that picks the name for a type can't have the text itself among its arguments.
-#[derive(Clone, Copy)]
-struct JournalWord<'a> {
-    name: &'a str,
-}
-
-/// The new file of a journal.
-#[derive(Drop)]
-struct NewFile<'a, N: FileName, F: Folder> {
-    folder: &'a F,
-    name: &'a str,
-    sink: F::Sink,
-    of: PhantomData<N>,
-    ghost named: { name.now ≡ N.name },
-}
-
-impl<N: FileName, F: Folder> Write for NewFile<'_, N, F> {
-    ghost contents = { λ file. F.Sink.contents file.sink };
-
-    fn write(&mut self, bytes: &[u8]) -> io::Result<usize> {
-        self.sink.write(bytes)
-    }
-
-    fn flush(&mut self) -> io::Result<()> {
-        self.sink.flush()
-    }
-}
-
-impl<N: FileName, F: Folder> JournalFile for NewFile<'_, N, F> {
-    ghost kept = { λ held. F.steps.kept N.name held };
-
-    // Refused: sync_of_a_journal_does_nothing.
-    fn sync(&mut self) -> io::Result<()> {
-        self.folder.sync(self.name, &mut self.sink)
-    }
 }
 
 /// A conversation that isn't held.
@@ -114,27 +62,6 @@ fn noted_end(end: Result<(), TalkFault>) -> Result<(), TaskFault>
         Ok(()) => Ok(()),
         Err(TalkFault::Tool(fault)) => Err(TaskFault::Tool(fault)),
         Err(TalkFault::Journal(fault)) => Err(TaskFault::Journal(fault)),
-    }
-}
-
-/// Makes the new file of a journal.
-fn new_file<'a, N: FileName, F: Folder>(
-    permit: Permit,
-    folder: &'a F,
-    name: &'a str,
-) -> Result<NewFile<'a, N, F>, TaskFault>
-    requires name { name.now ≡ N.name }
-    ensures made { IfOk result (λ file. F.steps.made name.now (F.Sink.contents file.sink)) }
-    ensures fault { IfErr result (λ fault. fault ≡ TaskFault.NoJournal) }
-{
-    match folder.create_new(permit, name) {
-        Ok(sink) => Ok(NewFile {
-            folder,
-            name,
-            sink,
-            of: PhantomData,
-        }),
-        Err(_) => Err(TaskFault::NoJournal),
     }
 }
 

@@ -5,19 +5,18 @@
 //! and a fault's line is made whole before it is written, so that lines of programs with one log don't mix; where
 //! memory is refused for it, it is written piece by piece.
 
-ghost use Rattle.std.specs.Prelude.{◌≡◌, ◌<◌, ◌⊎◌, ℕ, List, length, map, Option, IfOk, IfErr, OnOk, OnErr};
+ghost use Rattle.std.specs.Prelude.{◌≡◌, ◌<◌, ◌⊎◌, length, map, IfOk, IfErr, OnOk, OnErr};
 ghost use Rattle.std.specs.Io.KnownBytes.{Appends};
 ghost use Rattle.tas_engines.specs.declared.fault.RunFault.{RunFault};
 ghost use Rattle.tas_engines.specs.Commands.{IsRun};
 ghost use Rattle.tas_engines.specs.Output.{StopsWriting};
-ghost use Rattle.tas_words.specs.declared.task.Task.TheVariants.{Desk, Edit, Script};
+ghost use Rattle.tas_words.specs.declared.task.Task.TheVariants.{Edit, Script};
 ghost use Rattle.tas_program.specs.Files.{files_by};
-ghost use Rattle.tas_program.specs.Program.{EndsOver, DoesTask, IsTaskRun, CarriesOut, ProgramEnds, end_status, talk_of, tool_end};
+ghost use Rattle.tas_program.specs.Program.{EndsOver, DoesTask, IsTaskRun, CarriesOut, ProgramEnds, desk_of, end_status, talk_of, tool_end};
 ghost use Rattle.tas_program.specs.Reporting.{reported_of};
 
-use crate::pipes::pipes_of;
 use crate::searching::do_task;
-use crate::{Folder, Permit, Status, Streams, TaskFault, check_words, save_task, tell_waiting};
+use crate::{Folder, Status, Streams, TaskFault, check_words, save_task, tell_waiting};
 use std::alloc::{Allocator, Global};
 use std::env::Args;
 use std::io;
@@ -27,10 +26,9 @@ use std::thread::Threads;
 use std::time::Clock;
 use tas_engines::{Command, Whole, commands, run};
 use tas_tool::{
-    ReadFault, RunFault, ToolFault, desk_run, export_run, film_run, movie_script_run, script_run,
-    write_all,
+    ReadFault, RunFault, ToolFault, export_run, film_run, movie_script_run, script_run, write_all,
 };
-use tas_words::{Invocation, MovieFiles, Pairs, Task, collect_words, read_invocation};
+use tas_words::{Invocation, MovieFiles, Task, collect_words, read_invocation};
 
 /// Opens a file of this name.
 pub(crate) fn open<F: Folder>(folder: &F, name: &str) -> Result<F::File, ToolFault>
@@ -140,32 +138,7 @@ fn run_edit<A: Allocator + Copy, F: Folder, R: Read, W: Write>(
     }
 }
 
-/// Answers the lines of several files at once, on one movie.
-fn run_desk<T: Wait + Threads + Sync, F: Folder + Sync, W: Write>(
-    rt: &T,
-    alloc: Global,
-    cart: &str,
-    movie: &str,
-    pairs: Pairs<'_>,
-    permit: Permit,
-    folder: &F,
-    output: &mut W,
-) -> Result<(), ToolFault>
-    ensures { (input : Option (List ℕ)) →
-        DoesTask (files_by (F.bytes_of folder.now) (F.held_by folder.now) (F.shown folder.now))
-        (Desk cart.entry movie.entry pairs.entry)
-        (record { input = input; output = W.contents output.old })
-        (record { input = input; output = W.contents output.new }) result }
-{
-    let (mut cart, mut movie) = (open(folder, cart)?, open(folder, movie)?);
-    let Ok(mut doors) = pipes_of(alloc, folder, pairs, permit) else {
-        return Err(ToolFault::Read(ReadFault::Memory));
-    };
-    desk_run(rt, alloc, &mut cart, &mut movie, &mut doors, output)
-}
-
-/// Does a task that reports nothing, and is no conversation, by its engine, over the two streams that engines know. `Task::Desk` takes its memory from `global`,
-/// each other task from `alloc`.
+/// Does a task that reports nothing, and holds no conversation, by its engine, over the two streams that engines know.
 pub(crate) fn run_engine<
     T: Wait + Threads + Sync,
     A: Allocator + Copy + Send + Sync,
@@ -174,16 +147,15 @@ pub(crate) fn run_engine<
     W: Write,
 >(
     rt: &T,
-    global: Global,
     alloc: A,
     task: Task<'_>,
-    permit: Permit,
     folder: &F,
     input: &mut R,
     output: &mut W,
 ) -> Result<(), ToolFault>
     requires reports { reported_of task ≡ None }
     requires talk { talk_of task ≡ None }
+    requires desk { desk_of task ≡ None }
     ensures { DoesTask (files_by (F.bytes_of folder.now) (F.held_by folder.now) (F.shown folder.now))
         task.entry
         (record { input = R.remaining input.old; output = W.contents output.old })
@@ -254,9 +226,7 @@ pub(crate) fn run_engine<
         }
         Task::Script(start) => run_script(rt, alloc, start, folder, input, output),
         Task::Talk(_) => unreachable!(),
-        Task::Desk { cart, movie, pairs } => {
-            run_desk(rt, global, cart, movie, pairs, permit, folder, output)
-        }
+        Task::Desk(_) => unreachable!(),
     }
 }
 
@@ -303,14 +273,21 @@ pub fn run_task<
     // input is read.
     // Refused: second_pair_is_left_out, each_pair_is_the_first, seventh_pair_stands_for_the_eighth,
     // movie_and_cartridge_of_a_desk_are_swapped.
+    // A desk whose words name a journal ends with the fault of a word, and nothing is opened, where it has an eighth pair, or
+    // where a pair's file has the journal's name. Else its two files are opened, then the folder makes a new file of this name, by a
+    // step that it states, and then the desk's definition in `tas_tool` holds with a journal that begins with what this
+    // file holds, and what that says is on the disk was brought there by the folder's steps.
+    // Refused: journal_of_a_desk_is_left_out, desk_with_a_journal_has_eight_pairs, journal_is_a_pairs_file,
+    // only_names_of_the_first_pair_are_compared, failed_journal_of_a_desk_is_a_good_end,
+    // journal_of_each_seat_is_that_of_seat_0.
     // A conversation whose words name a journal is held with one: its files are opened, then the folder makes a new file of
     // this name, by a step that it states, and then the conversation's definition in `tas_tool` holds with a journal that
     // begins with what this file holds. Where a file can't be opened or made, neither stream is read or written, and no movie is left.
     // Refused: journal_is_left_out, journal_has_another_name, failed_journal_is_a_good_end.
     // Where two words of `tas desk` or `tas talk` stand for one ordinary file, or an OUT for one that has bytes, or a
     // JOURNAL for one, by what the folder showed of each word, the task isn't begun: it ends with the fault of the first
-    // such word, and neither stream is read or written. Else it is done, and has no fault of a word.
-    // Refused: journal_may_be_there, journal_is_not_looked_at.
+    // such word, and neither stream is read or written. Else it is done, and only a desk with a journal has a fault of a word then.
+    // Refused: journal_may_be_there, journal_is_not_looked_at, journal_of_a_desk_is_not_looked_at.
     // Refused: words_are_compared_with_none, device_is_not_compared, files_of_one_device_are_one_file,
     // file_of_one_byte_is_written_over, lines_that_have_bytes_are_at_fault, answers_may_go_into_the_lines,
     // no_file_is_looked_at, each_word_is_looked_at_as_the_first, movie_of_a_desk_is_not_looked_at,
@@ -374,6 +351,7 @@ fn report<A: Allocator, E: Write>(alloc: A, errors: &mut E, end: Result<(), Task
                 TaskFault::UnsyncedReport => Status::Fault,
                 TaskFault::NoJournal => Status::Fault,
                 TaskFault::Journal(_) => Status::Fault,
+                TaskFault::SeatJournal { .. } => Status::Fault,
                 TaskFault::Save(_) => Status::Fault,
             }
         }

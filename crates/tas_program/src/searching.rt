@@ -3,18 +3,19 @@
 //! A search's answer has two parts: the script goes to standard output, so that it can go on to a file or to `tas edit`, and the report
 //! to standard error, where it can be read meanwhile: a line for each layer as it is searched, and then the verdict. It alone says of which
 //! sequences the script is the best. So a search whose report can't be written ends with a fault, while the line of a fault that can't be
-//! written changes nothing. With `--report` a new file gets the same lines as they are made: after a signal it has whole lines. The file
+//! written changes nothing. With `--report` a new file gets the same lines as they are made, so that it has those before a signal. The file
 //! must be new, so nothing that is there is written over. It is made before the others are opened: where it is also the name of another word,
 //! whose file is missing, that is read as an empty file. It is brought to the disk once, at the end: a search can be made again, so no line
 //! waits for the disk, but a good end promises that its report is there.
 
 ghost use Rattle.std.specs.Prelude.{◌≡◌, ◌⊎◌, map, IfOk, IfErr};
 ghost use Rattle.tas_program.specs.Files.{files_by};
-ghost use Rattle.tas_program.specs.Program.{EngineEnds, talk_of};
+ghost use Rattle.tas_program.specs.Program.{EngineEnds, desk_of, talk_of};
 ghost use Rattle.tas_program.specs.Reporting.{ReportedEnds, reported_of};
 ghost use Rattle.tas_program.specs.Searching.{IsAskedFor, KeepsFile, Reports, ReportsVerdict, RunsSearch, SearchEnds, Searches, SearchesOver, bytes_end, search_files};
 ghost use Rattle.tas_search.specs.Logs.{log_bytes};
 
+use crate::desks::{desk_of, hold_desk};
 use crate::noted_talks::hold_words;
 use crate::recovering::run_recovery;
 use crate::running::{ended, open_all, run_engine};
@@ -374,7 +375,7 @@ fn run_reported<
 }
 
 /// Does a task by its engine, over the input and the output; the report of a search, a recovery or a verification goes to `errors`, and the journal of a
-/// conversation to a new file. A recovery, a verification and `Task::Desk` take their memory from `global`, each other task from `alloc`.
+/// conversation or a desk to a new file. A recovery, a verification and `Task::Desk` take their memory from `global`, each other task from `alloc`.
 pub(crate) fn do_task<
     T: Wait + Threads + Clock + Sync,
     A: Allocator + Copy + Send + Sync,
@@ -395,7 +396,7 @@ pub(crate) fn do_task<
 ) -> Result<(), TaskFault>
     ensures { EngineEnds F.steps
         (files_by (F.bytes_of folder.now) (F.held_by folder.now) (F.shown folder.now))
-        (reported_of task.entry) (talk_of task.entry) task.entry
+        (reported_of task.entry) (talk_of task.entry) (desk_of task.entry) task.entry
         (record { input = R.remaining input.old; output = W.contents output.old })
         (record { input = R.remaining input.new; output = W.contents output.new }) result }
 {
@@ -405,10 +406,10 @@ pub(crate) fn do_task<
         ),
         None => match talk_of(task) {
             Some(words) => hold_words(rt, alloc, words, permit, folder, input, output).end,
-            None => {
-                let end = run_engine(rt, global, alloc, task, permit, folder, input, output);
-                ended(end)
-            }
+            None => match desk_of(task) {
+                Some(words) => hold_desk(rt, global, words, permit, folder, output),
+                None => ended(run_engine(rt, alloc, task, folder, input, output)),
+            },
         },
     }
 }

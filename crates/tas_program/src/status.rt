@@ -44,12 +44,22 @@ pub enum TaskFault {
     /// It is a search that is written whole, as is its report, but the report's file couldn't be brought to the disk: the status is 1.
     #[error("fault: report: sync failed")]
     UnsyncedReport,
-    /// It is a conversation, and the file of its journal can't be made: the status is 1, and nothing is read.
+    /// It is a conversation or a desk, and the file of its journal can't be made: the status is 1, and no line is read.
     #[error("fault: journal: not created")]
     NoJournal,
-    /// It is a conversation whose journal hasn't all edits, and nothing of the answer to the last one is written: the status is 1.
+    /// It is a conversation whose journal hasn't all edits, and nothing of the answer to the last one is written; or a desk whose
+    /// journal hasn't its head, and no pair is opened: the status is 1.
     #[error("fault: journal: {0}")]
     Journal(JournalFault),
+    /// It is a desk whose conversation of this seat ended at a line that may edit: it was carried out, but the journal couldn't be brought up
+    /// to it, and nothing of its answer is written. No seat before it ended with a fault. The movie is written, and the status is 1.
+    #[error("fault: seat {seat}: journal: {fault}")]
+    SeatJournal {
+        /// The seat, counted from 0.
+        seat: u32,
+        /// Why the journal couldn't be brought up to the line.
+        fault: JournalFault,
+    },
     /// Its engine is done, but its output didn't replace the file: the status is 1.
     #[error("{0}")]
     Save(SaveFault),

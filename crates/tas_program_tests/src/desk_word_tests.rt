@@ -42,8 +42,69 @@ fn one_to_eight_pairs_are_a_desk(rt: HostRuntime) {
     }
 }
 
+/// Words that name a desk and its journal, wherever the flag stands.
+static NOTED: [(&[&str], &[Names<'static>]); 4] = [
+    (
+        &["desk", "a.bin", "b", "c", "d", "--journal", "j"],
+        &[("c", "d")],
+    ),
+    (
+        &["desk", "--journal=j", "a.bin", "b", "c", "d", "e", "f"],
+        &[("c", "d"), ("e", "f")],
+    ),
+    (
+        &["desk", "a.bin", "b", "c", "--journal", "j", "d"],
+        &[("c", "d")],
+    ),
+    (
+        &[
+            "desk",
+            "a.bin",
+            "b",
+            "c",
+            "d",
+            "1i",
+            "1o",
+            "2i",
+            "2o",
+            "3i",
+            "3o",
+            "4i",
+            "4o",
+            "5i",
+            "5o",
+            "6i",
+            "6o",
+            "--journal",
+            "j",
+        ],
+        &[
+            ("c", "d"),
+            ("1i", "1o"),
+            ("2i", "2o"),
+            ("3i", "3o"),
+            ("4i", "4o"),
+            ("5i", "5o"),
+            ("6i", "6o"),
+        ],
+    ),
+];
+
+#[test]
+fn pairs_and_a_journal_are_a_desk(rt: HostRuntime) {
+    for (number, (words, pairs)) in NOTED.iter().enumerate() {
+        check_task(
+            &rt,
+            rt.alloc(),
+            number,
+            words,
+            (&["a.bin", "b", "j"], &[1], pairs),
+        );
+    }
+}
+
 /// Words that are no desk, and the beginning of the text, which names what is missing.
-static NO_DESKS: [Shown<'static>; 9] = [
+static NO_DESKS: [Shown<'static>; 12] = [
     (
         &["desk"],
         b"error: the following required arguments were not provided:\n  <CART>\n  <MOVIE>\n  <IN0>\n  <OUT0>\n",
@@ -89,6 +150,28 @@ static NO_DESKS: [Shown<'static>; 9] = [
         &["desk", "--cart", "game.bin", "other", "in", "out"],
         b"error: unexpected argument '--cart' found\n",
     ),
+    (
+        &["desk", "game.bin", "other", "in", "out", "--journal"],
+        b"error: a value is required for '--journal <JOURNAL>' but none was supplied\n",
+    ),
+    (
+        &["desk", "game.bin", "--journal", "day"],
+        b"error: the following required arguments were not provided:\n  <MOVIE>\n  <IN0>\n  <OUT0>\n",
+    ),
+    (
+        &[
+            "desk",
+            "game.bin",
+            "other",
+            "in",
+            "out",
+            "--journal",
+            "day",
+            "--journal",
+            "day",
+        ],
+        b"error: the argument '--journal <JOURNAL>' cannot be used multiple times\n",
+    ),
 ];
 
 #[test]
@@ -99,6 +182,6 @@ fn other_pairs_end_with_status_2(rt: HostRuntime) {
 #[test]
 fn help_of_a_desk_is_shown(rt: HostRuntime) {
     let text =
-        b"Answers the lines of several programs at once, which edit one movie\n\nUsage: tas desk <CART> <MOVIE> <IN0> <OUT0> [IN1 OUT1] .. [IN7 OUT7]\n".as_slice();
+        b"Answers the lines of several programs at once, which edit one movie\n\nUsage: tas desk [OPTIONS] <CART> <MOVIE> <IN0> <OUT0> [IN1 OUT1] .. [IN7 OUT7]\n".as_slice();
     check_shown(&rt, rt.alloc(), 0, b"", &[(&["desk", "--help"], text)]);
 }

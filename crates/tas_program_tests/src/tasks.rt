@@ -13,7 +13,7 @@ pub type Names<'a> = (&'a str, &'a str);
 type Numbers = [Option<usize>; 6];
 
 /// A task's command, the names of its files and its numbers, each in the order of its words, a desk's pairs, and the file that its output
-/// replaces. The goal of a search is among its files, and a conversation with a journal has the number 1. Different tasks have different parts.
+/// replaces. The goal of a search is among its files, and a conversation or a desk with a journal has the number 1. Different tasks have different parts.
 type Parts<'a> = (
     &'a str,
     [Option<&'a str>; 4],
@@ -53,15 +53,15 @@ fn names<'a>(pair: Option<Pair<'a>>) -> Option<Names<'a>> {
 /// A desk's pairs.
 fn pairs<'a>(task: Task<'a>) -> [Option<Names<'a>>; 8] {
     match task {
-        Task::Desk { pairs, .. } => [
-            names(Some(pairs.first)),
-            names(pairs.second),
-            names(pairs.third),
-            names(pairs.fourth),
-            names(pairs.fifth),
-            names(pairs.sixth),
-            names(pairs.seventh),
-            names(pairs.eighth),
+        Task::Desk(words) => [
+            names(Some(words.pairs.first)),
+            names(words.pairs.second),
+            names(words.pairs.third),
+            names(words.pairs.fourth),
+            names(words.pairs.fifth),
+            names(words.pairs.sixth),
+            names(words.pairs.seventh),
+            names(words.pairs.eighth),
         ],
         _ => [None; 8],
     }
@@ -147,10 +147,14 @@ fn parts<'a>(order: Order<'a>) -> Parts<'a> {
             let (files, numbers) = talk(words);
             ("talk", files, numbers)
         }
-        Task::Desk { cart, movie, .. } => (
+        Task::Desk(words) => (
             "desk",
-            [Some(cart), Some(movie), None, None],
-            [None; 6],
+            [Some(words.cart), Some(words.movie), words.journal, None],
+            if words.journal.is_some() {
+                one(1)
+            } else {
+                [None; 6]
+            },
         ),
     };
     (command, files, numbers, pairs(task), order.output)

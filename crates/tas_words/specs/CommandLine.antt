@@ -202,7 +202,7 @@ later_shapes =
 
 -- the last one
 abbrev pub last_shapes : List Shape
-last_shapes = shape_with (codes "desk") (cart_rule ∷ file_rule (codes "MOVIE") ∷ pair_rules) ∷ []
+last_shapes = shape_with (codes "desk") (cart_rule ∷ file_rule (codes "MOVIE") ∷ lone_flag_rule (codes "JOURNAL") (codes "journal") ∷ pair_rules) ∷ []
 
 -- the first part of the program's command line
 abbrev pub first_line : App

@@ -131,7 +131,7 @@ later_guides =
 -- the guide of the last one
 abbrev pub last_guides : List Guide
 last_guides =
-    guide (codes "desk") (codes "tas desk <CART> <MOVIE> <IN0> <OUT0> [IN1 OUT1] .. [IN7 OUT7]")
+    guide (codes "desk") (codes "tas desk [OPTIONS] <CART> <MOVIE> <IN0> <OUT0> [IN1 OUT1] .. [IN7 OUT7]")
     None (false ∷ false ∷ false ∷ false ∷ false ∷ false ∷ false ∷ false ∷ false ∷ false ∷ false ∷ false ∷ false ∷ false ∷ false ∷ false ∷ false ∷ false ∷ [])
     ∷ []
 

@@ -7,6 +7,7 @@ use Rattle.clap.specs.Walk.{Row, Text, first_of, one_of}
 use Rattle.tas_language.specs.Commands.{most_number}
 use Rattle.tas_movie.specs.Content.{most_inputs}
 use Rattle.tas_film.specs.Runs.{most_workers}
+use Rattle.tas_words.specs.declared.task.DeskWords.{DeskWords}
 use Rattle.tas_words.specs.declared.task.Pair.{Pair}
 use Rattle.tas_words.specs.declared.task.Pairs.{Pairs}
 use Rattle.tas_words.specs.declared.task.PartWords.{PartWords}
@@ -151,6 +152,13 @@ ArePairs rows pairs =
     × IsOptionalPair rows (codes "IN6", codes "OUT6") pairs.seventh
     × IsOptionalPair rows (codes "IN7", codes "OUT7") pairs.eighth
 
+-- the words are those of a desk
+pub record AreDeskWords (rows : List Row) (words : DeskWords) : Type 0 where
+  pub cart : IsWord rows (codes "CART") words.cart.now
+  pub movie : IsWord rows (codes "MOVIE") words.movie.now
+  pub pairs : ArePairs rows words.pairs
+  pub journal : IsOptionalWord rows (codes "JOURNAL") words.journal
+
 -- the pairs that are there, in order
 abbrev pub pairs_in : Pairs → List Pair
 pairs_in pairs =
@@ -185,5 +193,4 @@ HasWords name rows (Diff cart old) = (name ≡ codes "diff") × IsWord rows (cod
 HasWords name rows (Script None) = (name ≡ codes "script") × IsStart rows Blank
 HasWords name rows (Script (Some files)) = (name ≡ codes "script") × IsStart rows (Movie files)
 HasWords name rows (Talk words) = (name ≡ codes "talk") × IsStart rows words.start × IsOptionalWord rows (codes "JOURNAL") words.journal
-HasWords name rows (Desk cart movie pairs) =
-    (name ≡ codes "desk") × IsWord rows (codes "CART") cart.now × IsWord rows (codes "MOVIE") movie.now × ArePairs rows pairs
+HasWords name rows (Desk words) = (name ≡ codes "desk") × AreDeskWords rows words

@@ -26,7 +26,7 @@ whole_reader (Cut cart from to) = Some (codes "cut")
 whole_reader (Diff cart old) = Some (codes "diff")
 whole_reader (Script start) = Some (codes "script")
 whole_reader (Talk words) = None
-whole_reader (Desk cart movie pairs) = None
+whole_reader (Desk words) = None
 
 -- the tip of that command: what it reads from standard input, with a call of it
 abbrev pub waits_for : Task → Option Text

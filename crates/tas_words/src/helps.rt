@@ -326,16 +326,22 @@ must be empty: else nothing is opened, and the status is 2. Pipes and devices ma
 than once.
 IN of a pair is opened first, and then OUT. Opening a pipe waits for the other end, so a program
 must open its IN, to write, before its OUT, to read. If it opens OUT first, both wait forever.
+With --journal JOURNAL the new file JOURNAL has the edits of all, each before the answer to it goes
+out, as for 'tas talk', and 'tas recover' makes the movie of it. It takes the place of a pair: at
+most seven go with it. If it can't be written, each conversation ends at its next line that may
+edit; answers to other lines don't wait for it. JOURNAL must not be there yet, nor have the name of
+a pair's file: else the status is 2.
 A pair's conversation ends with 'quit' or the end of IN, and both files are closed then. Standard
 input isn't read. Once all conversations have ended, standard output has the text of the movie that
 all edits made.
 Status: 0 if all conversations ended so. 1 if one ended with a fault, 'fault: seat K: ..', where K
 is 0 for IN0 and OUT0: all others have gone on, and the movie is written. 1 also if CART or MOVIE is
-at fault: then no pair is opened, and nothing is written.
+at fault, or JOURNAL can't be made or begun: then no pair is opened, and nothing is written.
 
 Example, with one pair and the shell as its program:
-  mkfifo in0 out0
-  ./tas desk joystick.bin examples/joystick.movie in0 out0 > new.movie &
+  rm -f in0 out0 desk.journal; mkfifo in0 out0
+  ./tas desk joystick.bin examples/joystick.movie in0 out0 --journal desk.journal > new.movie &
   exec 3> in0 4< out0
   echo insert 0 5 R.... ..... ..... >&3; read answer <&4; echo $answer
-  echo quit >&3; wait";
+  echo quit >&3; wait
+  ./tas recover joystick.bin < desk.journal";

@@ -15,9 +15,10 @@ mod words;
 
 pub use invocation::{Invocation, collect_words, read_invocation};
 pub use task::{
-    DEFAULT_EVERY, DEFAULT_HOLD, DEFAULT_STATES, DEFAULT_WORKERS, MAX_EVERY, MAX_FRAME_NUMBER,
-    MAX_FRAMES, MAX_INSTRUCTIONS, MAX_LINE, MAX_PARTS, MAX_STATES, MAX_WORKERS, MovieFiles, Order,
-    Pair, Pairs, PartWords, RecoveryWords, SearchWords, Start, TalkWords, Task, VerifyWords,
+    DEFAULT_EVERY, DEFAULT_HOLD, DEFAULT_STATES, DEFAULT_WORKERS, DeskWords, MAX_EVERY,
+    MAX_FRAME_NUMBER, MAX_FRAMES, MAX_INSTRUCTIONS, MAX_LINE, MAX_PARTS, MAX_STATES, MAX_WORKERS,
+    MovieFiles, Order, Pair, Pairs, PartWords, RecoveryWords, SearchWords, Start, TalkWords, Task,
+    VerifyWords,
 };
 pub use waiting::waits_for;
 pub use words::read_words;

@@ -121,6 +121,12 @@ const LEFT: Word = Word {
     kind: WordKind::Output,
 };
 
+const JOURNAL: Word = Word {
+    name: "JOURNAL",
+    help: "A new file that gets each edit before it is answered, for 'tas recover'",
+    kind: WordKind::LoneFlag { flag: "journal" },
+};
+
 /// The first of the four lists of commands: a proof over one list of all is too large.
 static FIRST_SUBCOMMANDS: [Subcommand; 10] = [
     Subcommand {
@@ -526,11 +532,7 @@ static LATER_SUBCOMMANDS: [Subcommand; 5] = [
                 help: "The file with the text of a movie to start from",
                 kind: WordKind::OptionalFile,
             },
-            Word {
-                name: "JOURNAL",
-                help: "A new file that gets each edit before it is answered, for 'tas recover'",
-                kind: WordKind::LoneFlag { flag: "journal" },
-            },
+            JOURNAL,
             LEFT,
         ],
     },
@@ -539,7 +541,7 @@ static LATER_SUBCOMMANDS: [Subcommand; 5] = [
 /// The last one.
 static LAST_SUBCOMMANDS: [Subcommand; 1] = [Subcommand {
     name: "desk",
-    usage: "tas desk <CART> <MOVIE> <IN0> <OUT0> [IN1 OUT1] .. [IN7 OUT7]",
+    usage: "tas desk [OPTIONS] <CART> <MOVIE> <IN0> <OUT0> [IN1 OUT1] .. [IN7 OUT7]",
     tip: None,
     about: "Answers the lines of several programs at once, which edit one movie",
     help: DESK_HELP,
@@ -550,6 +552,7 @@ static LAST_SUBCOMMANDS: [Subcommand; 1] = [Subcommand {
             help: "The file with the text of the movie to start from",
             kind: WordKind::File,
         },
+        JOURNAL,
         Word {
             name: "IN0",
             help: "The file that the first program's lines are read from",

@@ -158,6 +158,19 @@ pub struct Pairs<'a> {
     pub eighth: Option<Pair<'a>>,
 }
 
+/// The words of a desk.
+#[derive(Clone, Copy)]
+pub struct DeskWords<'a> {
+    /// The name of the cartridge's file of the movie to start from.
+    pub cart: &'a str,
+    /// The name of the file with this movie's text.
+    pub movie: &'a str,
+    /// The files of lines and of answers.
+    pub pairs: Pairs<'a>,
+    /// The name of the new file that its journal goes to; it has none if not given.
+    pub journal: Option<&'a str>,
+}
+
 /// A command with its words.
 #[derive(Clone, Copy)]
 pub enum Task<'a> {
@@ -274,14 +287,7 @@ pub enum Task<'a> {
     /// Answer the lines on standard input, each before the next one is read.
     Talk(TalkWords<'a>),
     /// Answer the lines of several files at once, all on one movie, and write the text of the movie that they make.
-    Desk {
-        /// The name of the cartridge's file of the movie to start from.
-        cart: &'a str,
-        /// The name of the file with this movie's text.
-        movie: &'a str,
-        /// The files of lines and of answers.
-        pairs: Pairs<'a>,
-    },
+    Desk(DeskWords<'a>),
 }
 
 /// A task, and where its output goes.

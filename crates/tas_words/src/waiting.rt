@@ -28,7 +28,7 @@ fn whole_reader(task: Task<'_>) -> Option<&'static str>
         Task::Cut { .. } => Some("cut"),
         Task::Diff { .. } => Some("diff"),
         Task::Script(_) => Some("script"),
-        Task::New { .. } | Task::Talk(_) | Task::Desk { .. } => None,
+        Task::New { .. } | Task::Talk(_) | Task::Desk(_) => None,
     }
 }
 

@@ -12,9 +12,9 @@ ghost use Rattle.tas_words.specs.CommandLine.{HasWordsOf, IsAsked, IsCommandLine
 use crate::command_line::command_line;
 use crate::parts::{part_of, refusal_of};
 use crate::{
-    DEFAULT_EVERY, DEFAULT_HOLD, DEFAULT_STATES, DEFAULT_WORKERS, MAX_EVERY, MAX_FRAME_NUMBER,
-    MAX_FRAMES, MAX_INSTRUCTIONS, MAX_LINE, MAX_STATES, MAX_WORKERS, MovieFiles, Order, Pair,
-    Pairs, RecoveryWords, SearchWords, Start, TalkWords, Task, VerifyWords,
+    DEFAULT_EVERY, DEFAULT_HOLD, DEFAULT_STATES, DEFAULT_WORKERS, DeskWords, MAX_EVERY,
+    MAX_FRAME_NUMBER, MAX_FRAMES, MAX_INSTRUCTIONS, MAX_LINE, MAX_STATES, MAX_WORKERS, MovieFiles,
+    Order, Pair, Pairs, RecoveryWords, SearchWords, Start, TalkWords, Task, VerifyWords,
 };
 use clap::{ArgMatches, Command, Error};
 use std::alloc::{Allocator, Global};
@@ -192,11 +192,13 @@ fn pairs_of<'a>(matches: &ArgMatches<'a>) -> Option<Pairs<'a>>
 fn desk_task<'a>(matches: &ArgMatches<'a>) -> Option<Task<'a>>
     ensures { IfSome result (HasWords (codes "desk") (rows_of (found_of matches.now))) }
 {
-    Some(Task::Desk {
+    let journal = word_of(matches, "JOURNAL");
+    Some(Task::Desk(DeskWords {
         cart: word_of(matches, "CART")?,
         movie: word_of(matches, "MOVIE")?,
         pairs: pairs_of(matches)?,
-    })
+        journal,
+    }))
 }
 
 /// What the command of this name asks for with its words; `None` where it is none of these, which write texts.
@@ -343,7 +345,7 @@ pub fn read_words<'a, A: Allocator>(
     // number_that_is_said_is_left_out*, every_is_600_whatever_is_said,
     // digest_is_of_single_frames_where_nothing_is_said*, second_movie_is_left_out*, names_file_is_the_choices_file,
     // states_are_the_frames_of_a_choice, line_of_until_is_left_out, search_goes_one_frame_far*, files_of_a_script_are_swapped,
-    // conversation_over_a_movie_begins_without_it, conversation_has_no_journal, movie_of_a_desk_is_its_cartridge, names_of_a_pair_are_swapped,
+    // conversation_over_a_movie_begins_without_it, conversation_has_no_journal, desk_has_no_journal, movie_of_a_desk_is_its_cartridge, names_of_a_pair_are_swapped,
     // answers_without_lines_are_left_out, first_names_of_two_pairs_are_swapped, seventh_pair_is_read_twice,
     // part_0_is_read, part_past_the_last_is_read, last_part_is_refused, numbers_of_a_part_are_swapped,
     // part_that_is_said_is_left_out*, more_than_a_million_parts_are_read*, directory_of_cartridges_is_left_out.

@@ -21,6 +21,9 @@ returns-in-NoJournal g c = rw (c.in-Err.is, c.in-NoJournal.is)
 pub returns-in-Journal : goal.returns-in-Journal
 returns-in-Journal g c = rw (c.in-Err.is, c.in-Journal.is)
 
+pub returns-in-SeatJournal : goal.returns-in-SeatJournal
+returns-in-SeatJournal g c = rw (c.in-Err.is, c.in-SeatJournal.is)
+
 pub returns-in-Verify : goal.returns-in-Verify
 returns-in-Verify g c = rw (c.in-Err.is, c.in-Verify.is)
 

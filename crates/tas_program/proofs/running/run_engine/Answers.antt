@@ -5,7 +5,7 @@ use Rattle.tas_engines.specs.Movies.{IsMovieRun}
 use Rattle.tas_engines.specs.Starting.{IsNewAnswer}
 use Rattle.tas_tool.specs.Films.{IsFilmRun}
 use Rattle.tas_tool.specs.Pixmaps.{IsExportAnswer}
-use Rattle.tas_program.specs.Program.{talk_of}
+use Rattle.tas_program.specs.Program.{desk_of, talk_of}
 use Rattle.tas_program.specs.Reporting.{reported_of}
 use Rattle.tas_program.specs.declared.searching.Reported.TheVariants as reported
 use Rattle.tas_program.proofs.ProgramLemmas.{over_alone, over_one}
@@ -41,8 +41,10 @@ returns-in_ok-cart-in-Export g c =
     rw c.in-Export.is
     (over_one (IsMovieRun (IsExportAnswer c.in-Export.from c.in-Export.to)) (g.F.Folder.bytes_of c.args.folder.now c.in-Export.cart.now) (g.F.File.Read.remaining c.in_ok-cart-in-Export.cart) (g.F.File.Read.remaining c.export_run.new.cart) (record { input = g.R.Read.remaining c.args.input.now; output = g.W.Write.contents c.args.output.now }) (record { input = g.R.Read.remaining c.export_run.new.input; output = g.W.Write.contents c.export_run.new.output }) c.export_run.result c.in_ok-cart-in-Export.ensures.file c.export_run.ensures)
 
-pub returns-in-Desk : goal.returns-in-Desk
-returns-in-Desk g c = rw c.in-Desk.is (c.run_desk.ensures (g.R.Read.remaining c.args.input.now))
+pub unreachable-requires-in-Desk : goal.unreachable-requires-in-Desk
+unreachable-requires-in-Desk g c =
+    let desk : Some c.in-Desk.field-0 ≡ None = sym (ap desk_of c.in-Desk.is) ∙ c.requires.desk in
+    cc
 
 pub returns-in-Shot : goal.returns-in-Shot
 returns-in-Shot g c = rw c.in-Shot.is c.run_over-in-Shot.ensures

@@ -1,5 +1,5 @@
 use Rattle.tas_program.specs.Files.{files_by}
-use Rattle.tas_program.proofs.SearchLemmas.{runs_alone, runs_into}
+use Rattle.tas_program.proofs.SearchLemmas.{runs_alone}
 use Rattle.tas_program.proofs.searching.run_search.Goals as goal
 
 pub returns-in-None : goal.returns-in-None

@@ -1,6 +1,6 @@
 use Rattle.std.proofs.Common.{List, ℕ, refl, inr, subst}
 use Rattle.tas_engines.specs.Output.{StopsWriting}
-use Rattle.tas_program.proofs.SearchLemmas.{verdict_cut, verdict_cut_later, verdict_logged}
+use Rattle.tas_program.proofs.SearchLemmas.{verdict_cut}
 use Rattle.tas_program.proofs.searching.write_verdict.Goals as goal
 
 pub returns-in-Err : goal.returns-in-Err
