@@ -104,7 +104,7 @@ static NO_TIPS: [Refused<'static>; 10] = [
     ),
     (
         &["desk", "game.bin", "game.movie", "in0"],
-        b"error: the following required arguments were not provided:\n  <OUT0>\n\nUsage: tas desk <CART> <MOVIE> <IN0> <OUT0> [IN1 OUT1] .. [IN7 OUT7]\n\nFor more information, try '--help'.\n",
+        b"error: the following required arguments were not provided:\n  <OUT0>\n\nUsage: tas desk [OPTIONS] <CART> <MOVIE> <IN0> <OUT0> [IN1 OUT1] .. [IN7 OUT7]\n\nFor more information, try '--help'.\n",
     ),
     (
         &["xyz", "game.bin"],
