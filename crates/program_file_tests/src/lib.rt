@@ -5,6 +5,7 @@
 mod checks;
 #[cfg(test)]
 mod desk_files;
+#[cfg(test)]
 mod desk_journal_tests;
 #[cfg(test)]
 mod desk_program_tests;
