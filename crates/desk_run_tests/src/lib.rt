@@ -10,6 +10,8 @@ mod end_tests;
 #[cfg(test)]
 mod memory_tests;
 #[cfg(test)]
+mod noted_memory_tests;
+#[cfg(test)]
 mod noted_tests;
 #[cfg(test)]
 mod replay_tests;

@@ -27,10 +27,13 @@ const HEAD_LINES: usize = 6;
 
 /// A file with so much room that can be brought to the disk so many times, and fails from then on; and how many of its bytes were.
 #[derive(Drop)]
-struct Disk {
-    taker: Taker,
-    syncs: u64,
-    synced: usize,
+pub struct Disk {
+    /// What it has.
+    pub taker: Taker,
+    /// How often it can still be brought to the disk.
+    pub syncs: u64,
+    /// How many of its bytes were.
+    pub synced: usize,
 }
 
 impl Write for Disk {
@@ -127,7 +130,7 @@ fn first_line(text: &[u8]) -> Option<(&[u8], &[u8])> {
 }
 
 /// How many whole lines of a journal are this seat's.
-fn noted_by(file: &[u8], seat: u8) -> usize {
+pub fn noted_by(file: &[u8], seat: u8) -> usize {
     let mut rest = file;
     let mut number = 0usize;
     let mut found = 0usize;
@@ -145,7 +148,7 @@ fn noted_by(file: &[u8], seat: u8) -> usize {
 }
 
 /// How many edits a client was told of.
-fn edits_told(answers: &[u8]) -> usize {
+pub fn edits_told(answers: &[u8]) -> usize {
     let mut rest = answers;
     let mut found = 0usize;
     for _ in 0..answers.len() {
