@@ -106,7 +106,7 @@ impl<A: Allocator> Cart<A> {
 
     /// The 2,048 or 4,096 bytes.
     pub fn bytes(&self) -> &[u8]
-        // Refused: bytes_without_the_first*.
+        // Refused: bytes_without_the_first.
         ensures value { result.now ≡ self.now }
         ensures size { is_cart_size (length result.now) ≡ true }
     {
@@ -115,7 +115,7 @@ impl<A: Allocator> Cart<A> {
 
     /// Takes another cartridge's bytes, as many as they are, without memory.
     pub fn copy_from<B: Allocator>(&mut self, other: &Cart<B>)
-        // Refused: bytes_not_reused*.
+        // Refused: bytes_not_reused.
         ensures { self.new ≡ other.now }
     {
         let bytes = other.bytes();
@@ -125,7 +125,7 @@ impl<A: Allocator> Cart<A> {
 
     /// An equal cartridge in memory of its own, or the allocator's refusal.
     pub fn copy<B: Allocator>(&self, alloc: B) -> Result<Cart<B>, AllocError>
-        // Refused: copy_of_zeros*.
+        // Refused: copy_of_zeros.
         ensures { IfOk result (λ cart. cart ≡ self.now) }
     {
         Cart::copy_of(alloc, self.bytes())
@@ -144,7 +144,7 @@ impl<A: Allocator> PartialEq for Cart<A> {
 
     /// Whether the two have the same bytes.
     fn eq(&self, other: &Cart<A>) -> bool
-        // Refused: equal_by_the_first_byte*.
+        // Refused: equal_by_the_first_byte.
         ensures value { result ≡ pointwise nat_eq self.now other.now }
         ensures same { IsTrue result ↔ (self.now ≡ other.now) }
     {

@@ -70,7 +70,7 @@ impl Input {
     /// Nothing is pressed, the colour switch stands at colour and both difficulty switches at B.
     pub fn none() -> Self
         // `Input::none` has nothing pressed, the colour switch at colour and both difficulty switches at B.
-        // Refused: none_is_black_and_white*.
+        // Refused: none_is_black_and_white.
         ensures { result ≡ no_input }
     {
         Input {
