@@ -3,13 +3,12 @@ use Rattle.std.proofs.Common.{◌≡◌, ◌++◌, ℕ, List, [], length, true, 
 use Rattle.std.specs.Prelude.{drop}
 use Rattle.std.specs.Io.KnownBytes.{Consumes, IsAtEnd}
 use Rattle.vcs_inputs.specs.Cart.{is_cart_size}
-use Rattle.tas_movie.specs.Content.{MovieContent}
 use Rattle.tas_movie.specs.Text.{text2}
 use Rattle.tas_engines.specs.Input.{IsReadWhole}
 use Rattle.tas_journal.specs.declared.error.JournalError.{JournalError}
 use Rattle.tas_journal.specs.declared.fault.RecoveryFault.{RecoveryFault}
 use Rattle.tas_journal.specs.declared.fault.RecoveryFault.TheVariants.{Journal}
-use Rattle.tas_journal.specs.declared.running.Recovery.{Recovery}
+use Rattle.tas_journal.specs.declared.recovering.Recovered.{Recovered}
 use Rattle.tas_journal.specs.Recovery.{IsRecovered, IsUnrecovered}
 use Rattle.tas_journal.specs.RecoveryRun.{Ends, IsJournalRead, IsRecoveredText, IsRecoveryFault, IsRecoveryRun}
 
@@ -27,12 +26,11 @@ journal_read old new before after empty all end consumed = record {
 }
 
 -- the text of the movie that was recovered with a cartridge, which is an image
-pub text_made : (A : Type 0) (until : ℕ) (image cart bytes text : List ℕ) (made : MovieContent) (said : Recovery) → is_cart_size (length image) ≡ true → cart ≡ image
-    → IsRecovered A bytes cart until made said.edits said.cut → text ≡ text2 made → IsRecoveredText A until image bytes text said
-text_made A until image cart bytes text made said size is recovered text_is = record {
-  made = made;
+pub text_made : (A : Type 0) (until : ℕ) (image cart bytes text : List ℕ) (found : Recovered A) → is_cart_size (length image) ≡ true → cart ≡ image
+    → IsRecovered A bytes cart until found.movie found.edits found.cut → text ≡ text2 found.movie → IsRecoveredText A until image bytes text found
+text_made A until image cart bytes text found size is recovered text_is = record {
   size = size;
-  recovered = subst (λ (c : List ℕ). IsRecovered A bytes c until made said.edits said.cut) is recovered;
+  recovered = subst (λ (c : List ℕ). IsRecovered A bytes c until found.movie found.edits found.cut) is recovered;
   text_is = text_is;
 }
 
@@ -41,7 +39,7 @@ pub journal_wrong : (A : Type 0) (until : ℕ) (image cart bytes : List ℕ) (er
 journal_wrong A until image cart bytes error size is wrong = (size, subst (λ (c : List ℕ). IsUnrecovered A bytes c until error) is wrong)
 
 -- a recovery over inputs that were read whole
-pub run_ended : (A : Type 0) (until : ℕ) (cart cart' input input' output output' : Option (List ℕ)) (image image' bytes bytes' : List ℕ) (result : Result Recovery RecoveryFault) → image ≡ image' → bytes ≡ bytes'
+pub run_ended : (A : Type 0) (until : ℕ) (cart cart' input input' output output' : Option (List ℕ)) (image image' bytes bytes' : List ℕ) (result : Result (Recovered A) RecoveryFault) → image ≡ image' → bytes ≡ bytes'
     → IsReadWhole cart cart' image' → IsJournalRead input input' bytes' → Ends A until image bytes output output' result → IsRecoveryRun A until cart cart' input input' output output' result
 run_ended A until cart cart' input input' output output' image image' bytes bytes' result is is' whole read ends =
     inr (image', bytes', whole, read, subst (λ (i : List ℕ). Ends A until i bytes' output output' result) is (subst (λ (b : List ℕ). Ends A until image b output output' result) is' ends))

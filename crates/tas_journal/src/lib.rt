@@ -19,5 +19,5 @@ pub use error::{JournalError, JournalErrorKind, RecoverError};
 pub use fault::RecoveryFault;
 pub use laws::{cut_journal_loses_no_line, journal_makes_its_movie, one_journal_per_text};
 pub use recovering::{Recovered, recover};
-pub use running::{Recovery, recover_run};
+pub use running::recover_run;
 pub use writing::{push_entry, write_head};

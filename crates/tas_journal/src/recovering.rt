@@ -107,6 +107,18 @@ pub struct Recovered<A: Allocator = Global> {
     pub cut: bool,
 }
 
+impl<A: Allocator> Recovered<A> {
+    /// The image of the movie's cartridge, 2,048 or 4,096 bytes: that of the last edit that loaded one, or of the cartridge that the
+    /// journal began with.
+    pub fn image(&self) -> &[u8]
+        // The image is that of the cartridge which the movie has, so that the two belong together.
+        // Refused: recovered_image_lacks_its_first_byte.
+        ensures { result.now ≡ self.now.movie.cart }
+    {
+        self.movie.cart().bytes()
+    }
+}
+
 /// What is recovered from a journal with the cartridge that it began with: its edits are those of the lines before the line `until`,
 /// counted from 1, so that `usize::MAX` asks for all. Bytes that no newline ends are no edit, and no fault. Else the first line at
 /// fault, or `Memory`.

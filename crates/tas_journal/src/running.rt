@@ -1,7 +1,7 @@
 //! A recovery over readers and a writer.
 //!
-//! Here and not in `tas_engines`, since that crate knows no journals, and neither scripts nor the commands without a desk need to. What is
-//! reported beside the movie is returned: the program writes it to standard error, which no engine knows.
+//! Here and not in `tas_engines`, since that crate knows no journals, and neither scripts nor the commands without a desk need to. What was
+//! recovered is returned: the program reports it to standard error, which no engine knows, and may keep the movie's cartridge.
 
 ghost use Rattle.std.specs.Prelude.{◌≡◌, true, length, IfOk, IfErr};
 ghost use Rattle.vcs_inputs.specs.Cart.{is_cart_size};
@@ -9,29 +9,20 @@ ghost use Rattle.tas_engines.specs.Tracing.{IsImageFault};
 ghost use Rattle.tas_journal.specs.RecoveryRun.{Ends, IsRecoveredText, IsRecoveryFault, IsRecoveryRun};
 
 use crate::reading::read_journal;
-use crate::{RecoverError, RecoveryFault, recover};
+use crate::{RecoverError, Recovered, RecoveryFault, recover};
 use std::alloc::{Allocator, Global};
 use std::io::{Read, Write};
 use tas_engines::{RunFault, read_input, write_all};
 use tas_movie::print_text;
 use vcs_inputs::Cart;
 
-/// What is reported of a movie that was recovered.
-#[derive(Clone, Copy, Debug, PartialEq, Eq)]
-pub struct Recovery {
-    /// How many edits were made.
-    pub edits: usize,
-    /// Whether a last line was cut: bytes that no newline ends follow the last edit.
-    pub cut: bool,
-}
-
-/// The text of a movie that was recovered, and what is reported of it.
+/// The text of a movie that was recovered, and the movie.
 #[derive(Drop)]
 struct RecoveredText<A: Allocator = Global> {
     /// The movie's text.
     text: Vec<u8, A>,
-    /// What is reported.
-    said: Recovery,
+    /// What was recovered.
+    found: Recovered<A>,
 }
 
 /// The cartridge of an image.
@@ -51,7 +42,7 @@ fn recovered_text<A: Allocator + Copy>(
     bytes: &[u8],
 ) -> Result<RecoveredText<A>, RecoveryFault>
     ensures text { IfOk result
-        (λ found. IsRecoveredText A until image.now bytes.now found.text.items found.said) }
+        (λ made. IsRecoveredText A until image.now bytes.now made.text.items made.found) }
     ensures fault { IfErr result (IsRecoveryFault A until image.now bytes.now) }
 {
     let cart = match cart_of(alloc, image) {
@@ -60,13 +51,7 @@ fn recovered_text<A: Allocator + Copy>(
     };
     match recover(alloc, bytes, &cart, until) {
         Ok(found) => match print_text(alloc, &found.movie) {
-            Ok(text) => {
-                let said = Recovery {
-                    edits: found.edits,
-                    cut: found.cut,
-                };
-                Ok(RecoveredText { text, said })
-            }
+            Ok(text) => Ok(RecoveredText { text, found }),
             Err(_) => Err(RecoveryFault::Run(RunFault::Memory)),
         },
         Err(RecoverError::Journal(error)) => Err(RecoveryFault::Journal(error)),
@@ -74,27 +59,27 @@ fn recovered_text<A: Allocator + Copy>(
     }
 }
 
-/// Recovers by these inputs, writes the movie's text and returns what is reported.
+/// Recovers by these inputs, writes the movie's text and returns what was recovered.
 fn answer<A: Allocator + Copy, W: Write>(
     alloc: A,
     until: usize,
     image: &[u8],
     bytes: &[u8],
     output: &mut W,
-) -> Result<Recovery, RecoveryFault>
+) -> Result<Recovered<A>, RecoveryFault>
     ensures { Ends A until image.now bytes.now (W.contents output.old) (W.contents output.new) result }
 {
     match recovered_text(alloc, until, image, bytes) {
         Err(fault) => Err(fault),
-        Ok(RecoveredText { text, said }) => match write_all(output, text.as_slice()) {
+        Ok(RecoveredText { text, found }) => match write_all(output, text.as_slice()) {
             Err(fault) => Err(RecoveryFault::Run(fault)),
-            Ok(()) => Ok(said),
+            Ok(()) => Ok(found),
         },
     }
 }
 
 /// Reads a cartridge and then a journal that began with it, and writes the text of the movie that the journal's lines before the line
-/// `until` make, as [`recover`] does; `usize::MAX` asks for all. Returns what is reported of it.
+/// `until` make, as [`recover`] does; `usize::MAX` asks for all. Returns what was recovered.
 ///
 /// Faults, in order: `Read` of the cartridge, and the journal is left untouched; `Read` of the journal; `Size` of the cartridge; `Journal`.
 /// Memory may be refused at any point. Nothing is written then. Last comes a write that failed.
@@ -104,9 +89,9 @@ pub fn recover_run<A: Allocator + Copy, C: Read, R: Read, W: Write>(
     cart: &mut C,
     input: &mut R,
     output: &mut W,
-) -> Result<Recovery, RecoveryFault>
-    // A recovery reads cartridge and journal whole and writes the text of the movie that `recover` makes of their bytes, and reports its edits
-    // and whether a last line was cut; or it ends with the first fault and nothing written. After a write that failed the first bytes of the
+) -> Result<Recovered<A>, RecoveryFault>
+    // A recovery reads cartridge and journal whole and writes the text of the movie that `recover` makes of their bytes, and returns this movie,
+    // how many edits it has and whether a last line was cut; or it ends with the first fault and nothing written. After a write that failed the first bytes of the
     // text are out, as many as the fault reports.
     // Refused: recovery_reports_no_edits, recovery_reports_no_cut_line, recovered_text_is_not_written,
     // fault_of_a_journal_is_in_its_first_line.

@@ -70,6 +70,10 @@ fn cartridges_are_loaded(rt: HostRuntime) {
         check_same(&rt, ("edits", size), (found.edits, found.cut), (2, false));
         let is_loaded = found.movie.cart().bytes() == image.as_slice();
         check_that(&rt, ("cartridge", size), is_loaded);
+        check_that(&rt, ("image", size), found.image() == image.as_slice());
+        // The line that loads it is left out.
+        let before = expect_ok(&rt, recover(alloc, journal.as_slice(), &cart, 7));
+        check_that(&rt, ("before", size), before.image() == cart.bytes());
         let printed = expect_ok(&rt, print_text(alloc, &found.movie));
         check_that(&rt, ("text", size), printed.as_slice() == text);
     }

@@ -3,11 +3,11 @@
 use crate::checks::{check_same, check_that, expect_ok};
 use crate::journals::{HEAD, JOURNAL, joined, text_after};
 use refusals::Refusing;
-use std::alloc::Global;
+use std::alloc::{Allocator, Global};
 use std::io::ErrorKind;
 use std::process::Abort;
 use tas_engines::{INPUT_LIMIT, ReadFault, RunFault};
-use tas_journal::{JournalError, JournalErrorKind, Recovery, RecoveryFault, recover_run};
+use tas_journal::{JournalError, JournalErrorKind, Recovered, RecoveryFault, recover_run};
 use test_streams::{Failure, Giver, Room, Taker};
 use vcs_machine::CART_SIZE;
 
@@ -20,12 +20,20 @@ const AT_ONCE: usize = 1000;
 /// The blank cartridge.
 static BLANK_IMAGE: [u8; CART_SIZE] = [0; CART_SIZE];
 
-/// How a recovery ends.
-type End = Result<Recovery, RecoveryFault>;
+/// How a recovery ends: how many edits it has, and whether a last line was cut.
+type End = Result<(usize, bool), RecoveryFault>;
 
 /// The end of one with so many edits.
 fn done(edits: usize, cut: bool) -> End {
-    Ok(Recovery { edits, cut })
+    Ok((edits, cut))
+}
+
+/// The end of this recovery.
+fn end_of<A: Allocator>(found: Result<Recovered<A>, RecoveryFault>) -> End {
+    match found {
+        Ok(found) => Ok((found.edits, found.cut)),
+        Err(fault) => Err(fault),
+    }
 }
 
 /// Fails where a recovery of the blank cartridge writes or reports something else.
@@ -39,7 +47,7 @@ fn check_run<R: Abort>(
     let (mut cart, mut input) = (BLANK_IMAGE.as_slice(), journal);
     let mut output = Vec::new(alloc);
     let found = recover_run(alloc, until, &mut cart, &mut input, &mut output);
-    check_same(rt, (until, journal.len()), found, end);
+    check_same(rt, (until, journal.len()), end_of(found), end);
     check_that(rt, (until, journal.len()), output.as_slice() == text);
 }
 
@@ -89,7 +97,7 @@ fn cartridges_at_fault(rt: HostRuntime) {
         let mut output = Vec::new(alloc);
         let found = recover_run(alloc, usize::MAX, &mut cart, &mut input, &mut output);
         let fault = RecoveryFault::Run(RunFault::Size(size));
-        check_same(&rt, size, found, Err(fault));
+        check_same(&rt, size, end_of(found), Err(fault));
         check_same(&rt, ("left", size), (input.len(), output.len()), (0, 0));
     }
 }
@@ -118,8 +126,8 @@ fn run_read(
     cart.kind = kind;
     let mut input = Giver::new(JOURNAL, AT_ONCE, fails_at[1]);
     input.kind = kind;
-    let end = recover_run(alloc, usize::MAX, &mut cart, &mut input, output);
-    (end, [cart.reads, input.reads])
+    let found = recover_run(alloc, usize::MAX, &mut cart, &mut input, output);
+    (end_of(found), [cart.reads, input.reads])
 }
 
 /// The cartridge has five reads, and one that gives nothing.
@@ -172,7 +180,13 @@ fn is_written<R: Abort>(
 ) -> bool {
     let (mut cart, mut input) = (BLANK_IMAGE.as_slice(), JOURNAL);
     let mut output = Taker::new(alloc, 7, Room::Writes(room), failure);
-    let end = recover_run(alloc, usize::MAX, &mut cart, &mut input, &mut output);
+    let end = end_of(recover_run(
+        alloc,
+        usize::MAX,
+        &mut cart,
+        &mut input,
+        &mut output,
+    ));
     let written = output.taken.len();
     let is_first = whole.starts_with(output.taken.as_slice());
     check_that(rt, ("first bytes", room), is_first);
@@ -213,7 +227,13 @@ fn is_done<R: Abort>(rt: &R, alloc: Global, number: u64, whole: &[u8]) -> bool {
     let heap = Refusing::new(alloc, number.max(1));
     let (mut cart, mut input) = (BLANK_IMAGE.as_slice(), JOURNAL);
     let mut output = Vec::new(alloc);
-    let end = recover_run(&heap, usize::MAX, &mut cart, &mut input, &mut output);
+    let end = end_of(recover_run(
+        &heap,
+        usize::MAX,
+        &mut cart,
+        &mut input,
+        &mut output,
+    ));
     if !heap.has_refused() {
         check_same(rt, ("end", number), end, done(4, false));
         check_that(rt, ("text", number), output.as_slice() == whole);
