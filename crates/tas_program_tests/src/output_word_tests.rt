@@ -9,7 +9,7 @@ use tas_program::read_words;
 /// The words, the names of files and the numbers in them, and the file of the output, by hand.
 type Row<'a> = (&'a [&'a str], &'a [&'a str], &'a [usize], Option<&'a str>);
 
-static ROWS: [Row<'static>; 19] = [
+static ROWS: [Row<'static>; 20] = [
     (&["migrate", "a", "-o", "b"], &["a"], &[], Some("b")),
     (&["migrate", "-o", "b", "a"], &["a"], &[], Some("b")),
     (&["migrate", "--output", "b", "a"], &["a"], &[], Some("b")),
@@ -22,6 +22,12 @@ static ROWS: [Row<'static>; 19] = [
         &["recover", "-o", "b", "--until", "9", "a"],
         &["a"],
         &[9],
+        Some("b"),
+    ),
+    (
+        &["recover", "a", "--cart", "c", "-o", "b"],
+        &["a", "c"],
+        &[],
         Some("b"),
     ),
     (

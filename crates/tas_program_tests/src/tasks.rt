@@ -90,7 +90,7 @@ fn parts<'a>(order: Order<'a>) -> Parts<'a> {
         Task::New { cart, frames } => ("new", [Some(cart), None, None, None], one(frames)),
         Task::Recover(words) => {
             let until = words.until.map(|line| line as usize);
-            let files = [Some(words.cart), None, None, None];
+            let files = [Some(words.cart), words.image, None, None];
             ("recover", files, three(until, None, None))
         }
         Task::Search(words) => (

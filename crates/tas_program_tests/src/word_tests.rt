@@ -13,7 +13,7 @@ use std::thread::Threads;
 use std::time::Clock;
 
 /// Words that name a task, the first of them its command, and the task's files and numbers.
-static TASKS: [(&[&str], &[&str], &[usize]); 45] = [
+static TASKS: [(&[&str], &[&str], &[usize]); 47] = [
     (&["trace", "0"], &[], &[0]),
     (&["trace", "3"], &[], &[3]),
     (&["trace", "1000000"], &[], &[1_000_000]),
@@ -27,6 +27,16 @@ static TASKS: [(&[&str], &[&str], &[usize]); 45] = [
         &["recover", "--until=4294967295", "7"],
         &["7"],
         &[4_294_967_295],
+    ),
+    (
+        &["recover", "a.bin", "--cart", "b.bin"],
+        &["a.bin", "b.bin"],
+        &[],
+    ),
+    (
+        &["recover", "--cart=b", "--until", "7", "c"],
+        &["c", "b"],
+        &[7],
     ),
     (
         &["search", "a.bin", "0", "0", "reach x"],
@@ -152,7 +162,7 @@ fn each_command_is_its_task(rt: HostRuntime) {
 
 /// Words that are no task: none, an unknown one, too few, too many, numbers past their ranges and
 /// texts that are no numbers, unknown flags.
-static MISUSES: [&[&str]; 36] = [
+static MISUSES: [&[&str]; 40] = [
     &[],
     &[""],
     &["play"],
@@ -183,6 +193,10 @@ static MISUSES: [&[&str]; 36] = [
     &["recover", "game.bin", "--until", "4294967296"],
     &["recover", "game.bin", "--until", "x"],
     &["recover", "--until", "7", "--until", "8", "game.bin"],
+    &["recover", "game.bin", "--cart"],
+    &["recover", "--cart", "a", "--cart", "b", "game.bin"],
+    &["recover", "--cart", "a"],
+    &["check", "game.bin", "--cart", "a"],
     &["verify", "game.bin"],
     &["verify", "--carts"],
     &["verify", "--workers", "0"],

@@ -182,7 +182,7 @@ first_shapes =
 abbrev pub next_shapes : List Shape
 next_shapes =
     shape_with (codes "new") (cart_rule ∷ number_rule (codes "FRAMES") 0 most_inputs ∷ file_output_rule ∷ [])
-    ∷ shape_with (codes "recover") (cart_rule ∷ number_flag_rule (codes "LINE") (codes "until") 1 most_line ∷ file_output_rule ∷ [])
+    ∷ shape_with (codes "recover") (cart_rule ∷ lone_flag_rule (codes "IMAGE") (codes "cart") ∷ number_flag_rule (codes "LINE") (codes "until") 1 most_line ∷ file_output_rule ∷ [])
     ∷ shape_with (codes "search") (cart_rule ∷ frame_rule (codes "FROM") ∷ number_rule (codes "FRAMES") 0 most_inputs ∷ word_rule (codes "GOAL") None
     ∷ flag_rule (codes "CHOICES") (codes "choices") ∷ flag_rule (codes "NAMES") (codes "names")
     ∷ number_flag_rule (codes "N") (codes "hold") 1 most_inputs ∷ flag_rule (codes "K/N") (codes "first") ∷ number_flag_rule (codes "STATES") (codes "most") 1 most_number

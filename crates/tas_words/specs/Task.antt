@@ -172,6 +172,7 @@ HasWords name rows (Migrate cart) = (name ≡ codes "migrate") × IsWord rows (c
 HasWords name rows (New cart frames) = (name ≡ codes "new") × IsWord rows (codes "CART") cart.now × IsNumberWord rows (codes "FRAMES") 0 most_inputs frames
 HasWords name rows (Recover words) =
     (name ≡ codes "recover") × IsWord rows (codes "CART") words.cart.now × IsOptionalNumberWord rows (codes "LINE") 1 most_line words.until
+    × IsOptionalWord rows (codes "IMAGE") words.image
 HasWords name rows (Search words) = (name ≡ codes "search") × AreSearchWords rows words
 HasWords name rows (Verify words) = (name ≡ codes "verify") × AreVerifyWords rows words
 HasWords name rows (Shot cart k) = (name ≡ codes "shot") × IsWord rows (codes "CART") cart.now × IsFrameWord rows (codes "K") k

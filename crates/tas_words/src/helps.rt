@@ -60,10 +60,15 @@ The first line at fault ends the command with its number and nothing written. --
 the lines before it make, as '--until 7' after 'fault: journal line 7: number'; the movie that the
 journal begins with must be whole. With -o FILE the movie replaces FILE once it and the report are
 written; FILE may not be the journal.
+With --cart IMAGE the cartridge of that movie replaces IMAGE: that of the last line that loads one,
+which may be in no other file, or CART's where no line does. It comes after the text of the movie
+and before the report, so with -o before FILE. IMAGE may not be CART, the journal, standard output's
+file or FILE: else the status is 2, and nothing is opened.
 
-Example:
+Examples:
   examples/cart joystick > joystick.bin
-  ./tas recover joystick.bin -o recovered.movie < examples/joystick.journal";
+  ./tas recover joystick.bin -o recovered.movie < examples/joystick.journal
+  ./tas recover joystick.bin --cart last.bin -o last.movie < examples/joystick.journal";
 
 pub(crate) const SEARCH_HELP: &str = "\
 Standard input is the movie text, as for 'tas check'. An input is chosen for each of FRAMES frames

@@ -313,6 +313,11 @@ static NEXT_SUBCOMMANDS: [Subcommand; 4] = [
         words: &[
             CARTRIDGE,
             Word {
+                name: "IMAGE",
+                help: "Replaces IMAGE with the cartridge of that movie, once its text is written",
+                kind: WordKind::LoneFlag { flag: "cart" },
+            },
+            Word {
                 name: "LINE",
                 help: "Makes the edits of the lines before line LINE alone",
                 kind: WordKind::NumberFlag {

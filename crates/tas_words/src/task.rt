@@ -94,6 +94,8 @@ pub struct RecoveryWords<'a> {
     pub cart: &'a str,
     /// The first line that is left out, counted from 1, up to [`MAX_LINE`]; none is if not given.
     pub until: Option<u32>,
+    /// The name of the file that is replaced by the cartridge of the movie that is recovered; none is if not given.
+    pub image: Option<&'a str>,
 }
 
 /// The words of a verification.
