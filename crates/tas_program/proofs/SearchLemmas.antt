@@ -1,5 +1,5 @@
 -- Searches and recoveries, and the ends of tasks that are one.
-use Rattle.std.proofs.Common.{◌≡◌, ◌⊎◌, ℕ, List, Option, None, Some, Result, Ok, Err, inl, inr, refl, sym, ap, subst}
+use Rattle.std.proofs.Common.{◌≡◌, ◌⊎◌, ℕ, List, Bool, Option, None, Some, Result, Ok, Err, inl, inr, refl, sym, ap, subst}
 use Rattle.std.specs.Borrow.{Bor}
 use Rattle.std.specs.Io.KnownBytes.{Appends}
 use Rattle.tas_engines.specs.declared.fault.RunFault.{RunFault}
@@ -15,13 +15,13 @@ use Rattle.tas_words.specs.declared.task.SearchWords.{SearchWords}
 use Rattle.tas_words.specs.declared.task.Task.{Task}
 use Rattle.tas_program.specs.declared.saving.SaveFault.{SaveFault}
 use Rattle.tas_program.specs.declared.status.TaskFault.{TaskFault}
-use Rattle.tas_program.specs.declared.status.TaskFault.TheVariants.{Tool, Report, NoReport, Save as NotSaved}
+use Rattle.tas_program.specs.declared.status.TaskFault.TheVariants.{Tool, Image as NotKept, Report, NoReport, Save as NotSaved}
 use Rattle.tas_program.specs.declared.searching.Reported.{Reported}
 use Rattle.tas_program.specs.declared.searching.Reported.TheVariants as reported
 use Rattle.tas_journal.specs.declared.fault.RecoveryFault.{RecoveryFault}
-use Rattle.tas_journal.specs.declared.running.Recovery.{Recovery}
+use Rattle.tas_journal.specs.declared.recovering.Recovered.{Recovered}
 use Rattle.tas_words.specs.declared.task.RecoveryWords.{RecoveryWords}
-use Rattle.tas_program.specs.Recovering.{IsRecoveryEnd, Recovers, RecoversOver, first_left_out}
+use Rattle.tas_program.specs.Recovering.{IsLineAfter, IsReportOf, KeepsImage, Recovers, RecoversOver, first_left_out, image_end, recovered_end}
 use Rattle.tas_journal.specs.RecoveryRun.{IsRecoveryRun}
 use Rattle.std.specs.Global.{Global as GlobalType}
 use Rattle.tas_program.specs.Reporting.{ReportedEnds, reported_of}
@@ -32,7 +32,7 @@ use Rattle.tas_program.proofs.VerifyLemmas.{no_verify_fault}
 use Rattle.tas_movie.specs.Content.{MovieContent}
 use Rattle.tas_words.specs.declared.task.DeskWords.{DeskWords}
 use Rattle.tas_words.specs.declared.task.TalkWords.{TalkWords}
-use Rattle.tas_program.specs.Saving.{FileSteps}
+use Rattle.tas_program.specs.Saving.{Files, FileSteps, SaveEnds}
 use Rattle.tas_program.specs.Searching.{BreaksOff, KeepsFile, KeepsReport, Reports, ReportsVerdict, RunsSearch, SearchEnds, Searches, SearchesOver, bytes_end, search_files}
 use Rattle.tas_program.specs.Streams.{StreamBytes}
 
@@ -54,14 +54,24 @@ pub searched : (files : FileBytes) (words : SearchWords) (taken left : List (Opt
 searched files words taken left old new logs logs' end is ran = inr (left, subst (λ (l : List (Option (List ℕ))). SearchesOver words l left old new logs logs' end) is ran)
 
 -- a recovery ran over a cartridge that is open, up to this line
-pub recovered_over : (until : Option ℕ) (line : ℕ) (cart cart' input input' output output' : Option (List ℕ)) (done : Result Recovery RecoveryFault) (end : Result (List ℕ) TaskFault) → line ≡ first_left_out until → IsRecoveryEnd done end
+pub recovered_over : (until : Option ℕ) (line : ℕ) (cart cart' input input' output output' : Option (List ℕ)) (done : Result (Recovered GlobalType) RecoveryFault) (end : Result (Recovered GlobalType) TaskFault) → line ≡ first_left_out until → end ≡ recovered_end done
     → IsRecoveryRun GlobalType line cart cart' input input' output output' done → RecoversOver until cart cart' input input' output output' end
 recovered_over until line cart cart' input input' output output' done end is ended ran = (done, ended, subst (λ (n : ℕ). IsRecoveryRun GlobalType n cart cart' input input' output output' done) is ran)
 
 -- a recovery ran over a cartridge that was opened
-pub recovered : (files : FileBytes) (words : RecoveryWords) (cart left : Option (List ℕ)) (old new : StreamBytes) (end : Result (List ℕ) TaskFault) → cart ≡ files.read words.cart.now
+pub recovered : (files : FileBytes) (words : RecoveryWords) (cart left : Option (List ℕ)) (old new : StreamBytes) (end : Result (Recovered GlobalType) TaskFault) → cart ≡ files.read words.cart.now
     → RecoversOver words.until cart left old.input new.input old.output new.output end → Recovers files words old new end
 recovered files words cart left old new end is ran = inr (left, subst (λ (c : Option (List ℕ)). RecoversOver words.until c left old.input new.input old.output new.output end) is ran)
+
+-- the file that is named for a cartridge was replaced by it, or wasn't
+pub image_kept : (steps : FileSteps) (named : Option (Bor (List ℕ))) (name : Bor (List ℕ)) (image : List ℕ) (files files' : Option Files) (saved : Result (Unit {0}) SaveFault) (end : Result (Unit {0}) TaskFault) → named ≡ Some name
+    → end ≡ image_end saved → SaveEnds steps name.now image files files' saved → KeepsImage steps named image end
+image_kept steps named name image files files' saved end is ended saves = rw is (saved, ended, files, files', saves)
+
+-- the same of the cartridge of a movie that was recovered, and the report
+pub reported_kept : (steps : FileSteps) (named : Option (Bor (List ℕ))) (done : Result (Recovered GlobalType) TaskFault) (found : Recovered GlobalType) (image : List ℕ) (kept : Result (Unit {0}) TaskFault) (end : Result (List ℕ) TaskFault) → done ≡ Ok found
+    → image ≡ found.movie.cart → KeepsImage steps named image kept → IsLineAfter kept found.edits found.cut end → IsReportOf steps named done end
+reported_kept steps named done found image kept end is same keeps after = rw is (kept, subst (λ (i : List ℕ). KeepsImage steps named i kept) same keeps, after)
 
 -- the engine of a task that reports, a conversation, a desk, and the engine of any other task
 pub ends_reported : (steps : FileSteps) (files : FileBytes) (chosen : Task) (words : Reported) (told told' : Option (List ℕ)) (old new : StreamBytes) (end : Result (Unit {0}) TaskFault) → reported_of chosen ≡ Some words
@@ -101,11 +111,27 @@ no_search_fault files words old new logs logs' done fault (inl (inr refused, sam
 no_search_fault files words old new logs logs' done fault (inr (left, (asked, by, Ok verdict, ended, ran))) is = cc
 no_search_fault files words old new logs logs' done fault (inr (left, (asked, by, Err e, ended, ran))) is = cc
 
-no_recovery_fault : (files : FileBytes) (words : RecoveryWords) (old new : StreamBytes) (done : Result (List ℕ) TaskFault) (fault : SaveFault) → Recovers files words old new done → done ≡ Err (NotSaved fault) → ⊥
+no_recovery_fault : (files : FileBytes) (words : RecoveryWords) (old new : StreamBytes) (done : Result (Recovered GlobalType) TaskFault) (fault : SaveFault) → Recovers files words old new done → done ≡ Err (NotSaved fault) → ⊥
 no_recovery_fault files words old new done fault (inl (failed, same)) is = cc
-no_recovery_fault files words old new done fault (inr (left, (Ok said, inl ended, ran))) is = cc
-no_recovery_fault files words old new done fault (inr (left, (Ok said, inr refused, ran))) is = cc
+no_recovery_fault files words old new done fault (inr (left, (Ok found, ended, ran))) is = cc
 no_recovery_fault files words old new done fault (inr (left, (Err e, ended, ran))) is = cc
+
+-- nor does keeping its cartridge, nor the line after that
+no_image_fault : (steps : FileSteps) (named : Option (Bor (List ℕ))) (image : List ℕ) (kept : Result (Unit {0}) TaskFault) (fault : SaveFault) → KeepsImage steps named image kept → kept ≡ Err (NotSaved fault) → ⊥
+no_image_fault steps None image kept fault keeps is = cc
+no_image_fault steps (Some name) image kept fault (Ok u, ended, saves) is = cc
+no_image_fault steps (Some name) image kept fault (Err why, ended, saves) is = cc
+
+no_line_fault : (kept : Result (Unit {0}) TaskFault) (edits : ℕ) (cut : Bool) (end : Result (List ℕ) TaskFault) (fault : SaveFault) → (kept ≡ Err (NotSaved fault) → ⊥) → IsLineAfter kept edits cut end → end ≡ Err (NotSaved fault) → ⊥
+no_line_fault (Ok u) edits cut end fault none (inl said) is = cc
+no_line_fault (Ok u) edits cut end fault none (inr refused) is = cc
+no_line_fault (Err other) edits cut end fault none ended is = none (let same : other ≡ NotSaved fault = cc in ap Err same)
+
+no_report_fault : (steps : FileSteps) (named : Option (Bor (List ℕ))) (found : Result (Recovered GlobalType) TaskFault) (end : Result (List ℕ) TaskFault) (fault : SaveFault) → (found ≡ Err (NotSaved fault) → ⊥) → IsReportOf steps named found end
+    → end ≡ Err (NotSaved fault) → ⊥
+no_report_fault steps named (Ok it) end fault none (kept, keeps, after) is =
+    no_line_fault kept it.edits it.cut end fault (no_image_fault steps named it.movie.cart kept fault keeps) after is
+no_report_fault steps named (Err other) end fault none ended is = none (let same : other ≡ NotSaved fault = cc in ap Err same)
 
 -- nor does bringing the file of a report to the disk
 no_kept_fault : (steps : FileSteps) (name : Option (Bor (List ℕ))) (held' : Option (List ℕ)) (done : Result (Unit {0}) TaskFault) (fault : SaveFault) → (done ≡ Err (NotSaved fault) → ⊥) → KeepsReport steps name held' done (Err (NotSaved fault)) → ⊥
@@ -134,7 +160,7 @@ no_save_fault steps files (Some (reported.Search words)) talk desk chosen old ne
         no_verdict_fault ends.done fault ends.mid (log_bytes told' into.held') (no_search_fault files words old new (log_bytes told into.held) ends.mid ends.done fault ends.searches)
         (subst (λ (e : Result (Unit {0}) TaskFault). ReportsVerdict ends.done ends.mid (log_bytes told' into.held') e) is ends.reports)
 no_save_fault steps files (Some (reported.Recovery words)) talk desk chosen old new fault (told, told', ends) =
-    not_reported ends.done fault told told' (no_recovery_fault files words old new ends.done fault ends.recovers) ends.reports
+    not_reported ends.done fault told told' (no_report_fault steps words.image ends.found ends.done fault (no_recovery_fault files words old new ends.found fault ends.recovers) ends.reported) ends.reports
 no_save_fault steps files (Some (reported.Verification words)) talk desk chosen old new fault (told, told', ends) = no_verify_fault files.read words.carts old new fault ends
 
 -- ---- the file of a report

@@ -3,24 +3,26 @@ use Rattle.std.specs.Prelude.{◌≡◌, ℕ, Bool, true, false, ◌&&◌, if◌
 use Rattle.tas_words.specs.declared.task.Pair.{Pair}
 use Rattle.tas_words.specs.declared.task.Pairs.{Pairs}
 use Rattle.tas_words.specs.declared.task.DeskWords.{DeskWords}
+use Rattle.tas_words.specs.declared.task.RecoveryWords.{RecoveryWords}
 use Rattle.tas_words.specs.declared.task.TalkWords.{TalkWords}
 use Rattle.tas_words.specs.declared.task.Task.{Task}
-use Rattle.tas_words.specs.declared.task.Task.TheVariants.{Talk, Desk}
+use Rattle.tas_words.specs.declared.task.Task.TheVariants.{Recover, Talk, Desk}
+use Rattle.std.specs.Borrow.{Bor}
 use Rattle.std.specs.Option.{option_flatten}
 use Rattle.std.specs.Str.{bytes_eq}
 use Rattle.tas_words.specs.declared.task.Start.{Start}
 use Rattle.tas_words.specs.declared.task.Start.TheVariants.{Blank, Cart, Movie}
 use Rattle.tas_program.specs.declared.folder.OrdinaryFile.{OrdinaryFile}
 use Rattle.tas_program.specs.declared.file_words.FileWord.{FileWord}
-use Rattle.tas_program.specs.declared.file_words.FileWord.TheVariants.{Cart as CartWord, Movie as MovieWord, In, Out, Journal as JournalWord, Input, Output}
+use Rattle.tas_program.specs.declared.file_words.FileWord.TheVariants.{Cart as CartWord, Movie as MovieWord, In, Out, Journal as JournalWord, Input, Output, Image as ImageWord}
 use Rattle.tas_program.specs.declared.file_words.SeenWord.{SeenWord}
 use Rattle.tas_program.specs.declared.file_words.Permit.{Permit}
 use Rattle.tas_program.specs.declared.file_words.WordFault.{WordFault}
 use Rattle.tas_program.specs.declared.file_words.WordFault.TheVariants.{SameFile, NotEmpty, Exists, NoSeat}
 
--- all words in their order: those of the command line, and then the streams
+-- all words in their order: those of the command line, then the streams, and last the file that a cartridge replaces, so that its word is the one at fault
 abbrev pub words : List FileWord
-words = CartWord ∷ MovieWord ∷ In 0 ∷ Out 0 ∷ In 1 ∷ Out 1 ∷ In 2 ∷ Out 2 ∷ In 3 ∷ Out 3 ∷ In 4 ∷ Out 4 ∷ In 5 ∷ Out 5 ∷ In 6 ∷ Out 6 ∷ In 7 ∷ Out 7 ∷ JournalWord ∷ Input ∷ Output ∷ []
+words = CartWord ∷ MovieWord ∷ In 0 ∷ Out 0 ∷ In 1 ∷ Out 1 ∷ In 2 ∷ Out 2 ∷ In 3 ∷ Out 3 ∷ In 4 ∷ Out 4 ∷ In 5 ∷ Out 5 ∷ In 6 ∷ Out 6 ∷ In 7 ∷ Out 7 ∷ JournalWord ∷ Input ∷ Output ∷ ImageWord ∷ []
 
 -- the pair of this number, if it is there
 abbrev pub pair_at : Pairs → ℕ → Option Pair
@@ -56,8 +58,22 @@ desk_name desk JournalWord = option_map (λ name. name.now) desk.journal
 desk_name desk Output = Some (codes "/dev/stdout")
 desk_name desk word = None
 
--- the same of each task; other tasks read their inputs whole before they write, so their files aren't looked at
+-- the same of a recovery whose cartridge replaces a file of this name, beside its output
+abbrev pub kept_name : RecoveryWords → List ℕ → FileWord → Option (List ℕ)
+kept_name words image CartWord = Some words.cart.now
+kept_name words image Input = Some (codes "/dev/stdin")
+kept_name words image Output = Some (codes "/dev/stdout")
+kept_name words image ImageWord = Some image
+kept_name words image word = None
+
+-- one that has no such file reads its inputs whole before it writes, so its files aren't looked at
+abbrev pub recovery_name : RecoveryWords → Option (Bor (List ℕ)) → FileWord → Option (List ℕ)
+recovery_name words None word = None
+recovery_name words (Some image) word = kept_name words image.now word
+
+-- the same of each task; other tasks read their inputs whole before they write, too
 abbrev pub name_of : Task → FileWord → Option (List ℕ)
+name_of (Recover words) word = recovery_name words words.image word
 name_of (Talk talk) word = talk_name talk word
 name_of (Desk desk) word = desk_name desk word
 name_of chosen word = None

@@ -8,7 +8,7 @@ use Rattle.tas_words.specs.declared.task.Task.TheVariants.{Migrate, New, Recover
 use Rattle.tas_words.specs.declared.task.Start.TheVariants.{Blank, Cart, Movie}
 use Rattle.tas_program.specs.declared.folder.OrdinaryFile.{OrdinaryFile}
 use Rattle.tas_program.specs.declared.file_words.FileWord.{FileWord}
-use Rattle.tas_program.specs.declared.file_words.FileWord.TheVariants.{Cart as CartWord, Script as ScriptWord, Other as OtherWord, Old as OldWord, File as FileOut, Journal as JournalWord, Input as InputWord, Output as OutputWord}
+use Rattle.tas_program.specs.declared.file_words.FileWord.TheVariants.{Cart as CartWord, Script as ScriptWord, Other as OtherWord, Old as OldWord, File as FileOut, Journal as JournalWord, Input as InputWord, Output as OutputWord, Image as ImageWord}
 use Rattle.tas_program.specs.declared.file_words.SeenWord.{SeenWord}
 use Rattle.tas_program.specs.declared.file_words.Permit.{Permit}
 use Rattle.tas_program.specs.declared.file_words.WordFault.{WordFault}
@@ -51,6 +51,11 @@ abbrev pub answers_input : Task → Option (List ℕ)
 answers_input (Talk words) = Some (codes "/dev/stdout")
 answers_input chosen = None
 
+-- the file that a recovery's cartridge replaces, beside its movie's
+abbrev pub image_input : Task → Option (List ℕ)
+image_input (Recover words) = option_map (λ name. name.now) words.image
+image_input chosen = None
+
 -- the same by their words
 abbrev pub input_name : Task → FileWord → Option (List ℕ)
 input_name chosen CartWord = cart_input chosen
@@ -59,11 +64,12 @@ input_name chosen OtherWord = other_input chosen
 input_name chosen OldWord = old_input chosen
 input_name chosen InputWord = stream_input chosen
 input_name chosen OutputWord = answers_input chosen
+input_name chosen ImageWord = image_input chosen
 input_name chosen word = None
 
 -- these words in their order
 abbrev pub input_words : List FileWord
-input_words = CartWord ∷ ScriptWord ∷ OtherWord ∷ OldWord ∷ InputWord ∷ OutputWord ∷ []
+input_words = CartWord ∷ ScriptWord ∷ OtherWord ∷ OldWord ∷ InputWord ∷ OutputWord ∷ ImageWord ∷ []
 
 -- each of them is seen as the folder shows its file
 abbrev pub AreInputsSeen : (List ℕ → Option (Option OrdinaryFile)) → Task → List SeenWord → Type 0
@@ -95,11 +101,18 @@ abbrev pub is_journal : Task → List ℕ → Bool
 is_journal (Talk words) name = has_name words.journal name
 is_journal chosen name = false
 
--- the fault of a file that has the name of the journal, where neither is there yet
-abbrev pub name_fault : Task → List ℕ → Option WordFault
-name_fault chosen name = if is_journal chosen name then Some (SameFile FileOut JournalWord) else None
+-- a task's cartridge replaces a file of this name
+abbrev pub is_image : Task → List ℕ → Bool
+is_image (Recover words) name = has_name words.image name
+is_image chosen name = false
 
--- the fault of a file that stands for the ordinary file of one of them, or whose bytes a new movie would replace, or that has the name of the journal
+-- the fault of a file that has the name of the journal, or of the cartridge's file, where neither is there yet
+abbrev pub name_fault : Task → List ℕ → Option WordFault
+name_fault chosen name =
+    if is_journal chosen name then Some (SameFile FileOut JournalWord) else (if is_image chosen name then Some (SameFile FileOut ImageWord) else None)
+
+-- the fault of a file that stands for the ordinary file of one of them, or whose bytes a new movie would replace, or that has the name of the journal or of
+-- the cartridge's file
 abbrev pub output_fault : Task → List SeenWord → List ℕ → Option OrdinaryFile → Option WordFault
 output_fault chosen seen name file =
     fault_or (fault_by FileOut (first_same seen (record { word = FileOut; file = file })) (starts_movie chosen && has_some file)) (name_fault chosen name)

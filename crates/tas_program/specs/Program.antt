@@ -47,7 +47,7 @@ use Rattle.tas_words.specs.declared.task.Start.TheVariants.{Blank, Cart, Movie}
 use Rattle.clap.specs.Walk.{Text}
 use Rattle.tas_words.specs.Invocations.{AreGiven, IsInvocation}
 use Rattle.tas_program.specs.declared.status.TaskFault.{TaskFault}
-use Rattle.tas_program.specs.declared.status.TaskFault.TheVariants.{Word, Tool, Search as NotSearched, Recover as NotRecovered, Verify as NotVerified, NoCarts, NotAll, Report, NoReport, UnsyncedReport, NoJournal, Journal as NotNoted, SeatJournal, Save as NotSaved}
+use Rattle.tas_program.specs.declared.status.TaskFault.TheVariants.{Word, Tool, Search as NotSearched, Recover as NotRecovered, Image as NotKept, Verify as NotVerified, NoCarts, NotAll, Report, NoReport, UnsyncedReport, NoJournal, Journal as NotNoted, SeatJournal, Save as NotSaved}
 use Rattle.tas_program.specs.declared.file_words.WordFault.{WordFault}
 use Rattle.tas_program.specs.declared.file_words.SeenWord.{SeenWord}
 use Rattle.tas_program.specs.declared.saving.SaveFault.{SaveFault}
@@ -78,6 +78,7 @@ end_status (Err (Word fault)) = Misuse
 end_status (Err (Tool fault)) = Fault
 end_status (Err (NotSearched e)) = Fault
 end_status (Err (NotRecovered fault)) = Fault
+end_status (Err (NotKept fault)) = Fault
 end_status (Err (NotVerified fault)) = Fault
 end_status (Err NoCarts) = Fault
 end_status (Err NotAll) = Fault
@@ -201,7 +202,7 @@ DeskWordsEnd steps files words old new end = DeskBy steps files words words.jour
 -- ---- any task
 
 -- the engine of a task was run: that of a search, a recovery or a verification, which reports to some writer, of which nothing is said here, the file of a search's
--- report made and brought to the disk by steps of the folder; a conversation or those of a desk were held, the journal's file made by such steps; or that of
+-- report made and brought to the disk, and that of a recovery's cartridge replaced, by steps of the folder; a conversation or those of a desk were held, the journal's file made by such steps; or that of
 -- another task
 abbrev pub EngineEnds : FileSteps → FileBytes → Option Reported → Option TalkWords → Option DeskWords → Task → StreamBytes → StreamBytes → Result (Unit {0}) TaskFault → Type 0
 EngineEnds steps files (Some words) talk desk chosen old new end = (told told' : Option (List ℕ)) × ReportedEnds steps files words old new told told' end
@@ -303,6 +304,7 @@ abbrev pub IsEngineFault : TaskFault → Type 0
 IsEngineFault (Tool fault) = Unit {0}
 IsEngineFault (NotSearched e) = Unit {0}
 IsEngineFault (NotRecovered fault) = Unit {0}
+IsEngineFault (NotKept fault) = Unit {0}
 IsEngineFault (NotVerified fault) = Unit {0}
 IsEngineFault NoCarts = Unit {0}
 IsEngineFault NotAll = Unit {0}

@@ -19,9 +19,9 @@ reported_of (Recover words) = Some (reported.Recovery words)
 reported_of (Verify words) = Some (reported.Verification words)
 reported_of chosen = None
 
--- a task that reports ends as its own definition says, with the file of its report made as the folder states its steps; standard error held some bytes
+-- a task that reports ends as its own definition says, with the file of its report made, or that of its cartridge replaced, as the folder states its steps; standard error held some bytes
 -- before and holds some afterwards; nothing is said of what a verification writes there, how far it is
 abbrev pub ReportedEnds : FileSteps → FileBytes → Reported → StreamBytes → StreamBytes → (told told' : Option (List ℕ)) → Result (Unit {0}) TaskFault → Type 0
 ReportedEnds steps files (reported.Search words) old new told told' end = RunsSearch steps files words old new told told' end
-ReportedEnds steps files (reported.Recovery words) old new told told' end = RecoveryEnds files words old new told told' end
+ReportedEnds steps files (reported.Recovery words) old new told told' end = RecoveryEnds steps files words old new told told' end
 ReportedEnds steps files (reported.Verification words) old new told told' end = VerifyEnds files.read words old new end

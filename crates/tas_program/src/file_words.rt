@@ -4,7 +4,8 @@
 //! words of a desk that are only read count, too: each is most likely a slip, and a copy of the file serves whoever
 //! means it. Pipes and devices lose nothing and may stand for several words. Standard streams are looked at by their
 //! names in /dev, so that a folder in memory shows them, too. A JOURNAL must be new: it would go over the bytes
-//! of a file that is there, and what somebody else's edits left in it would be taken for its own.
+//! of a file that is there, and what somebody else's edits left in it would be taken for its own. A recovery's words
+//! are looked at where IMAGE is among them, which is replaced beside the output.
 //!
 //! No contract can say that a file wasn't opened, since opening leaves a folder as it was. So `open_to_write` takes a
 //! `Permit`, which only `check_words` makes. It is bound to no task: that `run_task` asks for its own task's is seen by
@@ -12,12 +13,12 @@
 
 ghost use Rattle.std.specs.Prelude.{◌≡◌, option_map};
 ghost use Rattle.tas_program.specs.FileWords.{AreSeen, IsSeen, WordsEnd, are_same, cart_name, desk_name, first_fault, first_named, first_same, has_text};
-ghost use Rattle.tas_program.specs.FileWords.{has_bytes, is_pair_output, journal_fault, movie_name, name_of, pair_at, pair_words, seat_fault, talk_name, there_fault, word_fault};
+ghost use Rattle.tas_program.specs.FileWords.{has_bytes, is_pair_output, journal_fault, kept_name, movie_name, name_of, pair_at, pair_words, seat_fault, talk_name, there_fault, word_fault};
 
 use crate::{Folder, OrdinaryFile};
 use std::fmt;
 use std::fmt::{Display, Formatter, Write};
-use tas_words::{DeskWords, Pair, Pairs, Start, TalkWords, Task};
+use tas_words::{DeskWords, Pair, Pairs, RecoveryWords, Start, TalkWords, Task};
 use thiserror::Error;
 
 /// A word that names a file, or a standard stream. Its text is the word's name in the help.
@@ -45,6 +46,8 @@ pub enum FileWord {
     Input,
     /// Standard output.
     Output,
+    /// The file that a recovery's cartridge replaces.
+    Image,
 }
 
 impl Display for FileWord {
@@ -61,6 +64,7 @@ impl Display for FileWord {
             FileWord::Journal => f.write_str("JOURNAL"),
             FileWord::Input => f.write_str("standard input"),
             FileWord::Output => f.write_str("standard output"),
+            FileWord::Image => f.write_str("IMAGE"),
         }
     }
 }
@@ -113,9 +117,9 @@ pub(crate) struct SeenWord {
 }
 
 /// How many words there are.
-const WORDS: usize = 21;
+const WORDS: usize = 22;
 
-/// All words, as they stand on the command line, and then the streams.
+/// All words, as they stand on the command line, then the streams, and last the file that a cartridge replaces.
 static ALL: [FileWord; WORDS] = [
     FileWord::Cart,
     FileWord::Movie,
@@ -138,6 +142,7 @@ static ALL: [FileWord; WORDS] = [
     FileWord::Journal,
     FileWord::Input,
     FileWord::Output,
+    FileWord::Image,
 ];
 
 /// The words of a desk's pairs, in order.
@@ -234,6 +239,19 @@ fn in_desk<'a>(desk: DeskWords<'a>, word: FileWord) -> Option<&'a str>
     }
 }
 
+/// What a word of a recovery stands for, whose cartridge replaces a file of this name.
+fn in_recovery<'a>(words: RecoveryWords<'a>, image: &'a str, word: FileWord) -> Option<&'a str>
+    ensures { option_map (λ name. name.now) result ≡ kept_name words.entry image.now word }
+{
+    match word {
+        FileWord::Cart => Some(words.cart),
+        FileWord::Input => Some("/dev/stdin"),
+        FileWord::Output => Some("/dev/stdout"),
+        FileWord::Image => Some(image),
+        _ => None,
+    }
+}
+
 /// What a word of a task stands for, where it is looked at.
 fn name_in<'a>(task: Task<'a>, word: FileWord) -> Option<&'a str>
     ensures { option_map (λ name. name.now) result ≡ name_of task.entry word }
@@ -241,6 +259,10 @@ fn name_in<'a>(task: Task<'a>, word: FileWord) -> Option<&'a str>
     match task {
         Task::Talk(words) => in_talk(words, word),
         Task::Desk(words) => in_desk(words, word),
+        Task::Recover(words) => match words.image {
+            Some(image) => in_recovery(words, image, word),
+            None => None,
+        },
         _ => None,
     }
 }
@@ -365,8 +387,8 @@ fn fault_among(seen: &[SeenWord; WORDS]) -> Option<WordFault>
 
 /// Looks at the files that a task's words name, before any is opened. Reports the first word that names the ordinary file of an earlier
 /// word, or that is an OUT and names an ordinary file with bytes, or is a JOURNAL and names one that is there. Standard input and output count as words after those of the command
-/// line. Only the words of [`Task::Talk`] and [`Task::Desk`] are looked at: other tasks read their inputs whole before they write, and the
-/// report of a search goes to a new file.
+/// line. Only the words of [`Task::Talk`] and [`Task::Desk`] are looked at, and those of a [`Task::Recover`] whose cartridge replaces a file: other
+/// tasks read their inputs whole before they write, and the report of a search goes to a new file.
 pub fn check_words<F: Folder>(folder: &F, task: Task<'_>) -> Result<Permit, WordFault>
     // A permit to open files for writing is given where no word is at fault.
     // Refused: words_at_fault_are_run, right_words_are_at_fault.

@@ -34,7 +34,7 @@ pub use saved_runs::{save_run, save_task};
 pub use saved_talks::save_talk;
 pub use saving::{SaveFault, save};
 pub use searching::run_search;
-pub use status::{Status, TaskFault};
+pub use status::{ImageFault, Status, TaskFault};
 pub use streams::Streams;
 pub use tas_words::{
     DeskWords, Invocation, Order, Pair, PartWords, RecoveryWords, SearchWords, Start, TalkWords,

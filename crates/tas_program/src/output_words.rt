@@ -4,12 +4,13 @@
 //! edited in place on purpose, and a cartridge replaced by a movie by mistake. The output of `diff` is a script, so it
 //! doesn't replace the newer movie; that of `new` is a blank movie, so it replaces nothing. A conversation edits MOVIE in
 //! place, but its movie replaces neither its lines nor its answers; one without MOVIE begins a movie, as `new` does. Nor does it
-//! replace its journal: no file is there yet by which the two could be seen to be one, so their names are compared. What
-//! isn't an ordinary file is refused at the rename, since root could replace a device.
+//! replace its journal: no file is there yet by which the two could be seen to be one, so their names are compared. A
+//! recovery's movie doesn't replace its cartridge's file, and its name is compared, too. What isn't an ordinary file is
+//! refused at the rename, since root could replace a device.
 
 ghost use Rattle.std.specs.Prelude.{◌≡◌, Some, option_map};
 ghost use Rattle.tas_program.specs.FileWords.{IsSeen};
-ghost use Rattle.tas_program.specs.OutputWords.{AreInputsSeen, OutputEnds, answers_input, cart_input, has_some, is_journal, old_input, other_input};
+ghost use Rattle.tas_program.specs.OutputWords.{AreInputsSeen, OutputEnds, answers_input, cart_input, has_some, image_input, is_image, is_journal, old_input, other_input};
 ghost use Rattle.tas_program.specs.OutputWords.{name_fault, output_fault, script_input, starts_movie, stream_input};
 
 use crate::file_words::{SeenWord, cart_of as cart_of_talk, same_among};
@@ -82,6 +83,16 @@ fn answers_of(task: Task<'_>) -> Option<&'static str>
     }
 }
 
+/// The name of the file that a recovery's cartridge replaces.
+fn image_of<'a>(task: Task<'a>) -> Option<&'a str>
+    ensures { option_map (λ name. name.now) result ≡ image_input task.entry }
+{
+    match task {
+        Task::Recover(words) => words.image,
+        _ => None,
+    }
+}
+
 /// A word as the folder shows its file.
 fn see<F: Folder>(folder: &F, word: FileWord, name: Option<&str>) -> SeenWord
     ensures word { result.word ≡ word }
@@ -94,8 +105,8 @@ fn see<F: Folder>(folder: &F, word: FileWord, name: Option<&str>) -> SeenWord
     SeenWord { word, file }
 }
 
-/// The files that a task reads, as the folder shows them.
-fn see_inputs<F: Folder>(folder: &F, task: Task<'_>) -> [SeenWord; 6]
+/// The files of a task's other words, as the folder shows them.
+fn see_inputs<F: Folder>(folder: &F, task: Task<'_>) -> [SeenWord; 7]
     ensures { AreInputsSeen (F.shown folder.now) task.entry result }
 {
     [
@@ -105,6 +116,7 @@ fn see_inputs<F: Folder>(folder: &F, task: Task<'_>) -> [SeenWord; 6]
         see(folder, FileWord::Old, old_of(task)),
         see(folder, FileWord::Input, stream_of(task)),
         see(folder, FileWord::Output, answers_of(task)),
+        see(folder, FileWord::Image, image_of(task)),
     ]
 }
 
@@ -145,6 +157,19 @@ fn is_journal(task: Task<'_>, name: &str) -> bool
     }
 }
 
+/// Whether a task's cartridge replaces a file of this name.
+fn is_image(task: Task<'_>, name: &str) -> bool
+    ensures { result ≡ is_image task.entry name.now }
+{
+    match task {
+        Task::Recover(words) => match words.image {
+            Some(image) => image == name,
+            None => false,
+        },
+        _ => false,
+    }
+}
+
 /// What is wrong with the name of the file that an output replaces.
 fn name_fault(task: Task<'_>, name: &str) -> Option<WordFault>
     ensures { result ≡ name_fault task.entry name.now }
@@ -153,6 +178,11 @@ fn name_fault(task: Task<'_>, name: &str) -> Option<WordFault>
         Some(WordFault::SameFile {
             word: FileWord::File,
             other: FileWord::Journal,
+        })
+    } else if is_image(task, name) {
+        Some(WordFault::SameFile {
+            word: FileWord::File,
+            other: FileWord::Image,
         })
     } else {
         None
@@ -189,16 +219,16 @@ fn output_fault(
 /// Looks at the files that a task's words name, before any is opened: first as [`check_words`] does for a task whose output replaces no
 /// file. Then it is an error where the file that the output replaces is the ordinary file of another word, or for [`Task::New`] an ordinary
 /// file with bytes. Standard input may be this file, since it is read whole before, but not for [`Task::Diff`] and [`Task::Recover`]. For
-/// [`Task::Talk`] the file
+/// [`Task::Recover`] it may not be the file that the cartridge replaces, nor have its name. For [`Task::Talk`] the file
 /// may be the movie's, but not that of standard input or output, it may have bytes only where the conversation starts from a movie, and its
 /// name may not be that of the journal.
 pub fn check_output<F: Folder>(folder: &F, task: Task<'_>, file: &str) -> Result<Permit, WordFault>
     // Where a word of the task is at fault, the task ends with this fault, and no stream is read or written. So it does where
-    // the file is the ordinary file of CART, SCRIPT, OTHER or OLD, or for `diff` and `recover` that of standard input, for `talk`
+    // the file is the ordinary file of CART, SCRIPT, OTHER, OLD or IMAGE, or for `diff` and `recover` that of standard input, for `talk`
     // that of standard input or output, or for `new`, and for `talk` without MOVIE, has bytes, by what the folder showed, or where it
-    // has the name of the journal. Else it is saved.
+    // has the name of the journal or of IMAGE. Else it is saved.
     // Refused: movie_may_replace_the_journal_beside_it, answers_may_be_replaced, movie_begun_in_a_conversation_may_replace_one, script_may_be_replaced, output_may_replace_any_file, script_may_replace_the_newer_movie,
-    // movie_may_replace_its_journal,
+    // movie_may_replace_its_journal, movie_may_replace_its_cartridge, movie_may_replace_the_cartridge_beside_it,
     // blank_movie_may_replace_a_movie, words_at_fault_are_saved.
     ensures { OutputEnds (F.shown folder.now) task.entry file.now result }
 {

@@ -261,7 +261,7 @@ pub fn run_task<
     // A command is done by its engine, over its files and standard input, with its own numbers, but for an export's
     // WORKERS, on which no answer depends. The file of a search's report is made, gets the report and is brought to the disk
     // by steps of the folder, as `run_search` says; that standard error gets it is a clause of `run_search` alone, and that
-    // the report of a recovery is written is one of `run_recovery`.
+    // the report of a recovery is written is one of `run_recovery`. So is the file that a recovery's cartridge replaces.
     // Refused: check_draws_the_first_frame*, each_file_is_the_first, migration_is_answered_as_check*,
     // talk_is_run_as_a_script*, shot_of_the_frame_before, script_and_cartridge_are_swapped*,
     // movie_and_cartridge_of_a_script_are_swapped*, film_starts_at_its_end, ram_ends_before_its_last_line*,
@@ -284,10 +284,11 @@ pub fn run_task<
     // this name, by a step that it states, and then the conversation's definition in `tas_tool` holds with a journal that
     // begins with what this file holds. Where a file can't be opened or made, neither stream is read or written, and no movie is left.
     // Refused: journal_is_left_out, journal_has_another_name, failed_journal_is_a_good_end.
-    // Where two words of `tas desk` or `tas talk` stand for one ordinary file, or an OUT for one that has bytes, or a
-    // JOURNAL for one, by what the folder showed of each word, the task isn't begun: it ends with the fault of the first
+    // Where two words of `tas desk`, of `tas talk`, or of `tas recover` with IMAGE, stand for one ordinary file, or an OUT for one that
+    // has bytes, or a JOURNAL for one, by what the folder showed of each word, the task isn't begun: it ends with the fault of the first
     // such word, and neither stream is read or written. Else it is done, and only a desk with a journal has a fault of a word then.
-    // Refused: journal_may_be_there, journal_is_not_looked_at, journal_of_a_desk_is_not_looked_at.
+    // Refused: journal_may_be_there, journal_is_not_looked_at, journal_of_a_desk_is_not_looked_at,
+    // cartridge_of_a_recovery_is_not_looked_at.
     // Refused: words_are_compared_with_none, device_is_not_compared, files_of_one_device_are_one_file,
     // file_of_one_byte_is_written_over, lines_that_have_bytes_are_at_fault, answers_may_go_into_the_lines,
     // no_file_is_looked_at, each_word_is_looked_at_as_the_first, movie_of_a_desk_is_not_looked_at,
@@ -343,6 +344,7 @@ fn report<A: Allocator, E: Write>(alloc: A, errors: &mut E, end: Result<(), Task
                 TaskFault::Tool(_) => Status::Fault,
                 TaskFault::Search(_) => Status::Fault,
                 TaskFault::Recover(_) => Status::Fault,
+                TaskFault::Image(_) => Status::Fault,
                 TaskFault::Verify(_) => Status::Fault,
                 TaskFault::NoCarts => Status::Fault,
                 TaskFault::NotAll => Status::Fault,

@@ -367,7 +367,9 @@ fn run_reported<
         Reported::Search(words) => {
             run_search(rt, alloc, words, permit, folder, input, output, errors)
         }
-        Reported::Recovery(words) => run_recovery(global, words, folder, input, output, errors),
+        Reported::Recovery(words) => {
+            run_recovery(global, words, permit, folder, input, output, errors)
+        }
         Reported::Verification(words) => {
             run_verify(rt, global, words, folder, input, output, errors)
         }

@@ -4,11 +4,34 @@ ghost use Rattle.std.specs.Prelude.{◌≡◌};
 ghost use Rattle.tas_program.specs.Program.{status_code};
 
 use crate::{SaveFault, WordFault};
+use std::fmt;
+use std::fmt::{Display, Formatter, Write};
 use tas_journal::RecoveryFault;
 use tas_search::SearchError;
 use tas_tool::{JournalFault, RunFault, ToolFault};
 use tas_verify::VerifyFault;
 use thiserror::Error;
+
+/// Why a recovery's cartridge didn't replace the file IMAGE: its text is that of the same fault of FILE, with the other word.
+#[derive(Clone, Copy, Debug, PartialEq, Eq)]
+pub struct ImageFault {
+    /// Why a file isn't replaced.
+    pub fault: SaveFault,
+}
+
+impl Display for ImageFault {
+    fn fmt<W: Write>(&self, f: &mut Formatter<W>) -> fmt::Result {
+        match self.fault {
+            SaveFault::NotCreated => f.write_str("fault: IMAGE: not created"),
+            SaveFault::Write { written } => {
+                write!(f, "fault: IMAGE: write failed after {written} bytes")
+            }
+            SaveFault::NotSynced => f.write_str("fault: IMAGE: not synced"),
+            SaveFault::NotRenamed => f.write_str("fault: IMAGE: not renamed"),
+            SaveFault::Memory => f.write_str("fault: out of memory"),
+        }
+    }
+}
 
 /// Why a task wasn't done. Its text is the line, without the newline, that the program writes to standard error.
 #[derive(Clone, Copy, Debug, PartialEq, Eq, Error)]
@@ -25,6 +48,10 @@ pub enum TaskFault {
     /// It is a recovery, and nothing was recovered: the status is 1.
     #[error("{0}")]
     Recover(RecoveryFault),
+    /// It is a recovery, and the movie's text is written, but its cartridge didn't replace the file for it, and nothing is reported: the status
+    /// is 1.
+    #[error("{0}")]
+    Image(ImageFault),
     /// It is a verification, and not all lines are written: the status is 1.
     #[error("{0}")]
     Verify(VerifyFault),

@@ -12,6 +12,9 @@ returns-in-Search g c = rw (c.in-Err.is, c.in-Search.is)
 pub returns-in-Recover : goal.returns-in-Recover
 returns-in-Recover g c = rw (c.in-Err.is, c.in-Recover.is)
 
+pub returns-in-Image : goal.returns-in-Image
+returns-in-Image g c = rw (c.in-Err.is, c.in-Image.is)
+
 pub returns-in-Report : goal.returns-in-Report
 returns-in-Report g c = rw (c.in-Err.is, c.in-Report.is)
 
