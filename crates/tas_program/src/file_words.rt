@@ -212,7 +212,7 @@ fn in_talk(words: TalkWords<'_>, word: FileWord) -> Option<&str>
         FileWord::Cart => cart_of(words.start),
         FileWord::Movie => movie_of(words.start),
         FileWord::Journal => words.journal,
-        FileWord::Input => Some("/dev/stdin"),
+        FileWord::Input => Some("/dev/stdin"), // its lines
         FileWord::Output => Some("/dev/stdout"),
         _ => None,
     }
