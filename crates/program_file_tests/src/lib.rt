@@ -12,6 +12,8 @@ mod desk_program_tests;
 #[cfg(test)]
 mod file_word_tests;
 #[cfg(test)]
+mod image_file_tests;
+#[cfg(test)]
 mod journal_files;
 #[cfg(test)]
 mod journal_program_tests;
@@ -23,6 +25,8 @@ mod output_file_tests;
 mod programs;
 #[cfg(test)]
 mod real_file_tests;
+#[cfg(test)]
+mod real_image_tests;
 #[cfg(test)]
 mod real_journal_tests;
 #[cfg(test)]
