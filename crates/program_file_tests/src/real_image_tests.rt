@@ -87,6 +87,11 @@ static CASES: [Case<'static>; 8] = [
     ),
 ];
 
+/// Makes a file of these bytes.
+fn make<R: Files + Abort>(rt: &R, name: &str, bytes: &[u8]) {
+    expect_ok(rt, fs::write(rt, name, bytes));
+}
+
 /// Fails where a file has other bytes.
 fn check_file<R: Files + Alloc + Abort>(rt: &R, name: &str, bytes: &[u8]) {
     let found = expect_ok(rt, fs::read(rt, name));
@@ -112,11 +117,11 @@ fn cartridges_replace_real_files(rt: HostRuntime) {
     let game = image_of(&rt, alloc, PLAYFIELD.bytes);
     let _ = fs::remove_dir_all(&rt, PLACE);
     expect_ok(&rt, fs::create_dir(&rt, PLACE));
-    expect_ok(&rt, fs::write(&rt, CART, game.as_slice()));
+    make(&rt, CART, game.as_slice());
     expect_ok(&rt, fs::hard_link(&rt, CART, HARD));
-    expect_ok(&rt, fs::write(&rt, OTHER, b"other"));
+    make(&rt, OTHER, b"other");
     expect_ok(&rt, symlink(&rt, "other", LINK));
-    expect_ok(&rt, fs::write(&rt, OLD, b"old"));
+    make(&rt, OLD, b"old");
     for case in CASES.iter() {
         check_case(&rt, alloc, *case);
     }
