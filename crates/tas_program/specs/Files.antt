@@ -1,5 +1,5 @@
 -- What contracts see of the program's files.
-use Rattle.std.specs.Prelude.{ℕ, List, Option, map}
+use Rattle.std.specs.Prelude.{◌≡◌, ℕ, List, Option, map}
 use Rattle.tas_seat.specs.Lines.{DoorEnds}
 use Rattle.tas_words.specs.Task.{pairs_in}
 use Rattle.tas_words.specs.declared.task.Pair.{Pair}
@@ -16,6 +16,11 @@ pub record FileBytes : Type 0 where
 -- the same by three such functions
 abbrev pub files_by : (read held : List ℕ → Option (List ℕ)) → (shown : List ℕ → Option (Option OrdinaryFile)) → FileBytes
 files_by read held shown = record { read = read; held = held; shown = shown }
+
+-- what an output holds is held by a writer of the files of a folder, by the bytes that each of these holds: what was written to it has reached the file
+-- that was opened, and none of it is kept elsewhere
+abbrev pub Reaches : {S : Type 0} → (S → Option (List ℕ)) → Option (List ℕ) → Type 0
+Reaches {S = S} contents output = (sink : S) × (contents sink ≡ output)
 
 -- the ends of a desk's pair: the bytes of its first file, and those that its second one holds
 abbrev pub ends_by : FileBytes → Pair → DoorEnds

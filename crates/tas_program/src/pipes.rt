@@ -2,6 +2,7 @@
 
 ghost use Rattle.std.specs.Prelude.{◌≡◌, ◌≤◌, All, length, map, IfOk};
 ghost use Rattle.tas_desk.specs.Seats.{most_seats};
+ghost use Rattle.tas_program.specs.Files.{Reaches};
 ghost use Rattle.tas_words.specs.Task.{pairs_in};
 
 use crate::{Folder, Permit};
@@ -23,10 +24,12 @@ impl<F: Folder> Door for Pipes<'_, F> {
 
     type Output = F::Sink;
 
+    // What was written to an output has reached a file of the folder's when it is closed, and none of it is kept in memory.
+    // Refused: none, `close` is handed the folder's own writer. An output of another type would need one that holds as much.
     ghost facts = { record {
       given = λ pipes. F.bytes_of pipes.folder.now pipes.pair.input.now;
       held = λ pipes. F.held_by pipes.folder.now pipes.pair.output.now;
-      left = λ pipes input output. Unit {0};
+      left = λ pipes input output. Reaches F.Sink.contents output;
       refused = λ pipes. Unit {0};
     } };
 
