@@ -377,7 +377,7 @@ fn run_reported<
 }
 
 /// Does a task by its engine, over the input and the output; the report of a search, a recovery or a verification goes to `errors`, and the journal of a
-/// conversation or a desk to a new file. A recovery, a verification and `Task::Desk` take their memory from `global`, each other task from `alloc`.
+/// conversation or a desk to a new file; a recovery's cartridge replaces the file that is named for it. A recovery, a verification and `Task::Desk` take their memory from `global`, each other task from `alloc`.
 pub(crate) fn do_task<
     T: Wait + Threads + Clock + Sync,
     A: Allocator + Copy + Send + Sync,
