@@ -25,7 +25,8 @@ FORMS = {
     "check": "c", "migrate": "c", "edit": "cf", "cut": "cnn", "diff": "cm", "script": "", "talk": "|cm", "shot": "cn", "film": "c|nn", "export": "cnnw", "ram": "cnn",
     "digest": "c|e", "compare": "cm", "lag": "c", "trace": "t", "new": "cl", "recover": "c", "search": "cnlg", "verify": "", "desk": "cmff|ffffffffffffff"}
 NUMBERS = {"n": (0, 9999999), "w": (1, 16), "e": (1, MOST), "l": (0, MOST), "s": (1, 9999999), "t": (0, 1000000), "j": (1, 4294967295)}
-FLAGS = {"edit": ("--with",), "talk": ("--journal",), "desk": ("--journal",), "recover": ("--until",), "search": ("--choices", "--names", "--hold", "--first", "--most", "--workers"), "verify": ("--carts", "--workers"), "script": ("--cart", "--movie")}
+FLAGS = {"edit": ("--with",), "talk": ("--journal",), "desk": ("--journal",), "recover": ("--until", "--cart"), "search": ("--choices", "--names", "--hold", "--first", "--most", "--workers"), "verify": ("--carts", "--workers"), "script": ("--cart", "--movie")}
+KEPT = "day"  # the file of a conversation's journal, or of a recovery's cartridge
 FLAG_NUMBERS = {"--hold": "e", "--most": "s", "--workers": "w", "--until": "j"}
 NUMBER = re.compile(r"\+?0*([0-9]{1,10})")
 PART, MOST_PARTS = re.compile(r"([1-9][0-9]{0,6})/([1-9][0-9]{0,6})"), 1000000
@@ -142,7 +143,7 @@ class Run:
     def __init__(self, files, stream, seen, most_searched=20):
         self.inputs, self.seen, self.most_searched = Inputs(files, stream), seen, most_searched
         self.space = None  # of a search
-        self.journal = None  # of a conversation
+        self.kept = None  # the journal of a conversation, or the cartridge of a recovery
 
     def wanted(self, words):
         """What must come of these words."""
@@ -167,7 +168,8 @@ class Run:
     def ran(self, command, found, flagged):
         self.output = self.errors = b""
         try:
-            self.output = getattr(self, command)(*[value for _, value in found], **{flag[2:]: word for flag, word in flagged.items()})
+            named = {"image" if command == "recover" and flag == "--cart" else flag[2:]: word for flag, word in flagged.items()}
+            self.output = getattr(self, command)(*[value for _, value in found], **named)
         except hands.Fault as fault:
             self.seen["%s: %s" % (command, getattr(fault, "detail", re.sub(r"halted.*", "halted", re.sub(r"\d+", "N", str(fault)))))] += 1
             return Wanted(self.output, ("fault: %s\n" % fault).encode(), 1)
@@ -201,11 +203,14 @@ class Run:
         cart, = self.inputs.read([cart], False)
         return hands.movie_text(sized(cart), [hands.REST] * frames)
 
-    def recover(self, cart, until=None):
-        """The movie of a journal of any length; the report goes to standard error."""
+    def recover(self, cart, until=None, image=None):
+        """The movie of a journal of any length; the report goes to standard error, and the cartridge to a file."""
+        if image not in (None, KEPT):
+            raise Open("a cartridge's file that may be there")
         cart, = self.inputs.read([cart], False)
         cart, frames, report = journals.recovered(self.inputs.stream, sized(cart), until)
         self.errors = report.encode()
+        self.kept = cart if image is not None else None
         self.seen["recover: a cut line"] += "cut" in report
         return hands.movie_text(cart, frames)
 
@@ -316,7 +321,7 @@ class Run:
         first, text = len(holder.edits), hands.movie_text(*holder.main.movie)
         answers = readings.conversed(holder, self.inputs.stream, self.seen)
         if journal is not None:
-            self.journal = journals.written(text, holder.edits[first:])
+            self.kept = journals.written(text, holder.edits[first:])
             self.seen["talk: an edit in a journal"] += len(holder.edits) > first
         return answers
 

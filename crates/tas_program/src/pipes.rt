@@ -24,8 +24,9 @@ impl<F: Folder> Door for Pipes<'_, F> {
 
     type Output = F::Sink;
 
-    // What was written to an output has reached a file of the folder's when it is closed, and none of it is kept in memory.
-    // Refused: none, `close` is handed the folder's own writer. An output of another type would need one that holds as much.
+    // What was written to an output has reached a file of the folder's when it is closed, and none of it is kept in memory: an
+    // output of another type would need a writer of the folder's that holds as much.
+    // Refused: none, `close` is handed the folder's own writer.
     ghost facts = { record {
       given = λ pipes. F.bytes_of pipes.folder.now pipes.pair.input.now;
       held = λ pipes. F.held_by pipes.folder.now pipes.pair.output.now;
