@@ -49,8 +49,11 @@ fn refusal_of<'a, A: Allocator + Copy>(
     // Refused: refusal_has_no_tip, refusal_with_a_tip_loses_its_text.
     ensures { IsRefusalWith (map string_bytes words.now) (string_bytes text) result }
 {
-    match tip_of(words) {
-        Some(tip) => match with_tip(alloc, text.as_str(), tip) {
+    let Ok(tip) = tip_of(alloc, words) else {
+        return Invocation::NoMemory;
+    };
+    match tip {
+        Some(tip) => match with_tip(alloc, text.as_str(), tip.as_str()) {
             Ok(text) => Invocation::Refuse(text),
             Err(_) => Invocation::NoMemory,
         },
@@ -78,20 +81,26 @@ fn invocation_of<'a, A: Allocator + Copy>(
 }
 
 /// What the words ask for; the first of them is the program's name. A task is that of the command that they name. A refusal of words that
-/// have a word too many, or one in a number's place, has the command's tip. clap takes its memory from `global` alone, a text its from
-/// `alloc`.
+/// have a word too many, or one in a number's place, has the command's tip, with the flags that they have. clap takes its memory from
+/// `global` alone, a text its from `alloc`.
 pub fn read_invocation<'a, A: Allocator + Copy>(
     global: Global,
     alloc: A,
     words: &'a [String<A>],
 ) -> Invocation<'a, A>
     // Refused: every_task_is_a_trace_of_nothing, output_goes_to_standard_output.
-    // A refusal of words with one too many, or with one in a number's place that can't be a number, no flag among them,
-    // has the tip of the command that they name, which says what is read from standard input and shows a call. The tip
-    // stands between the first line of a text and its rest, both whole; any other refusal is the text that was to be
-    // told.
-    // Refused: flags_get_a_tip, word_too_many_gets_no_tip, number_out_of_range_gets_a_tip,
-    // number_with_a_plus_gets_a_tip, tip_comes_after_the_whole_text.
+    // A refusal of words with one too many, or with one in a number's place that can't be a number, flags and their
+    // values aside, has the tip of the command that they name, which says what is read from standard input and shows a
+    // call. The call has the flags with their values in the order of the words, before its `<`, in the place of those
+    // that it shows where the words have none. Words with a flag that isn't the command's, or lacks its value, and those
+    // with a flag or a value that needs quotes in a shell, get no tip. The tip stands between the first line of a text
+    // and its rest, both whole; any other refusal is the text that was to be told.
+    // Refused: flag_is_a_word_too_many, dash_alone_is_a_flag, value_of_a_flag_is_a_word_too_many,
+    // value_after_an_equals_sign_is_awaited, flag_of_another_command_gets_a_tip, flag_is_the_value_of_a_flag,
+    // last_flag_needs_no_value, short_flag_is_unknown, space_needs_no_quotes, tip_has_no_flags,
+    // tip_shows_its_own_flags_too, word_too_many_gets_no_tip, number_out_of_range_gets_a_tip,
+    // number_with_a_plus_gets_a_tip, tip_comes_after_the_whole_text, empty_text_needs_no_quotes*,
+    // flags_come_after_the_input*, second_flag_of_a_command_is_unknown*.
     ensures { IsInvocation (map string_bytes words.entry.now) result }
 {
     match read_words(global, words) {

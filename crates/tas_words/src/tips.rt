@@ -1,17 +1,33 @@
 //! Tips for those who take a command's standard input for one of its words.
 //!
-//! A tip is one line with made-up names: a call made of the given words would guess which of them is the movie. Words
-//! with a flag get none, since a flag may be what is wrong.
+//! A tip is one line with made-up names: a call made of the given words would guess which of them is the movie. Its flags are those that
+//! were given, since none of them can be the movie. Words with a flag that isn't the command's, or lacks its value, get none, since it may
+//! be what is wrong; nor do those with a flag that a shell would take in quotes alone, as its line would lack them.
 
-ghost use Rattle.std.specs.Prelude.{◌≡◌, find, map, option_map, string_bytes};
-ghost use Rattle.std.specs.List.{list_all};
-ghost use Rattle.tas_words.specs.Guides.{guide_named, guide_of, has_stray, is_flag, is_named, is_number_byte, is_plain, kind_number, numbers_of, tip_of};
+ghost use Rattle.std.specs.Prelude.{◌≡◌, IfOk, OnOk, find, map, option_map, string_bytes};
+ghost use Rattle.std.specs.List.{list_all, list_any};
+ghost use Rattle.std.specs.Str.{bytes_eq};
+ghost use Rattle.clap.specs.Lexer.{strip_byte};
+ghost use Rattle.tas_words.specs.Guides.{fits, flags_of, given_by, given_of, guide_named, guide_of, has_stray, is_bare_byte, is_flag, is_kept, is_named, is_number_byte, is_one_of, is_tipped, joined, kind_flag, kind_number, long_name, numbers_of, opens, tip_for, tip_of, with_flag, with_flags, with_text};
 
 use crate::subcommands::{
     Subcommand, Word, WordKind, first_subcommands, last_subcommands, later_subcommands,
     next_subcommands,
 };
-use std::alloc::Allocator;
+use std::alloc::{AllocError, Allocator};
+
+/// What was given after a command's name.
+#[derive(Drop)]
+pub(crate) struct GivenWords<'a, A: Allocator> {
+    /// The words.
+    pub(crate) words: Vec<&'a str, A>,
+    /// The flags with their values, a space after each.
+    pub(crate) flags: String<A>,
+    /// Whether the next text is the value of the last flag.
+    pub(crate) awaits: bool,
+    /// Whether each flag is one of the command's, each value after one is a value, and none of them needs quotes.
+    pub(crate) is_known: bool,
+}
 
 /// Whether a text may be a number: it has digits and plus signs alone.
 fn may_be_number(text: &str) -> bool
@@ -25,22 +41,29 @@ fn may_be_number(text: &str) -> bool
     true
 }
 
-/// Whether a word is a flag.
-fn is_flag(word: &str) -> bool
-    ensures { result ≡ is_flag word.now }
+/// Whether a text is a flag.
+fn is_flag(text: &str) -> bool
+    ensures { result ≡ is_flag text.now }
 {
-    match word.as_bytes().split_first() {
-        Some((first, _)) => *first == b'-',
+    match text.as_bytes().split_first() {
+        Some((first, rest)) => *first == b'-' && !rest.is_empty(),
         None => false,
     }
 }
 
-/// Whether no word is a flag.
-fn are_plain<A: Allocator>(words: &[String<A>]) -> bool
-    ensures { result ≡ list_all is_plain (map string_bytes words.now) }
+/// Whether a byte needs no quotes in a shell.
+fn is_bare_byte(byte: u8) -> bool
+    ensures { result ≡ is_bare_byte byte }
 {
-    for word in words {
-        if is_flag(word.as_str()) {
+    byte.is_ascii_alphanumeric() || b"+,-./:=@_".contains(&byte)
+}
+
+/// Whether a text needs no quotes in a shell.
+fn is_bare(text: &str) -> bool
+    ensures { result ≡ list_all is_bare_byte text.now }
+{
+    for byte in text.as_bytes() {
+        if !is_bare_byte(*byte) {
             return false;
         }
     }
@@ -59,9 +82,152 @@ fn number_kind(kind: WordKind) -> Option<bool>
     }
 }
 
+/// The long name of the flag that a word of this kind stands after.
+fn kind_flag(kind: WordKind) -> Option<&'static str>
+    ensures { option_map (λ flag. flag.now) result ≡ kind_flag kind }
+{
+    match kind {
+        WordKind::File | WordKind::OptionalFile | WordKind::PairedFile { .. } => None,
+        WordKind::Flag { flag, .. } => Some(flag),
+        WordKind::LoneFlag { flag } => Some(flag),
+        WordKind::Output => Some("output"),
+        WordKind::Number { .. } | WordKind::OptionalNumber { .. } => None,
+        WordKind::NumberFlag { flag, .. } => Some(flag),
+    }
+}
+
+/// Whether one of a command's flags has this long name.
+fn has_flag(words: &[Word], name: &str) -> bool
+    ensures { result ≡ list_any (λ flag. bytes_eq flag name.now) (flags_of words.now) }
+{
+    let Some((word, others)) = words.split_first() else {
+        return false;
+    };
+    let Some(flag) = kind_flag(word.kind) else {
+        return has_flag(others, name);
+    };
+    flag == name || has_flag(others, name)
+}
+
+/// What follows a first dash.
+fn strip_dash(text: &str) -> Option<&str>
+    ensures { option_map (λ rest. rest.now) result ≡ strip_byte 45 text.now }
+{
+    text.strip_prefix('-')
+}
+
+/// The long name of a flag, that of `-o`, too.
+fn long_name(flag: &str) -> Option<&str>
+    ensures { option_map (λ name. name.now) result ≡ long_name flag.now }
+{
+    if flag == "-o" {
+        Some("output")
+    } else {
+        strip_dash(strip_dash(flag)?)
+    }
+}
+
+/// Whether a text is one of a command's flags, alone or with its value.
+fn is_one_of(words: &[Word], text: &str) -> bool
+    ensures { result ≡ is_one_of (flags_of words.now) text.now }
+{
+    let (flag, _) = text.split_once('=').unwrap_or((text, ""));
+    match long_name(flag) {
+        Some(name) => has_flag(words, name),
+        None => false,
+    }
+}
+
+/// Whether a command's flags are known still with this text, which is one of them, or the value of the last one.
+fn fits(words: &[Word], is_known: bool, awaits: bool, text: &str) -> bool
+    ensures { result ≡ fits (flags_of words.now) is_known awaits text.now }
+{
+    if !is_known {
+        return false;
+    }
+    if !is_bare(text) {
+        return false;
+    }
+    if awaits {
+        return !is_flag(text) && !text.is_empty();
+    }
+    is_one_of(words, text)
+}
+
+/// Whether the value of a flag is to come after this text, which is a flag, or the value of one.
+fn opens(awaits: bool, text: &str) -> bool
+    ensures { result ≡ opens awaits text.now }
+{
+    !awaits && !text.as_bytes().contains(&b'=')
+}
+
+/// Whether a text is a flag, or the value of one.
+fn is_kept(awaits: bool, text: &str) -> bool
+    ensures { result ≡ is_kept awaits text.now }
+{
+    awaits || is_flag(text)
+}
+
+/// Adds a flag, or the value of one.
+fn push_flag<A: Allocator>(
+    words: &[Word],
+    text: &str,
+    given: &mut GivenWords<'_, A>,
+) -> Result<(), AllocError>
+    ensures { OnOk result
+        (given_of given.new ≡ with_flag (flags_of words.now) text.now (given_of given.old)) }
+{
+    let is_known = fits(words, given.is_known, given.awaits, text);
+    let awaits = opens(given.awaits, text);
+    given.flags.push_str(text)?;
+    given.flags.push_str(" ")?;
+    given.is_known = is_known;
+    given.awaits = awaits;
+    Ok(())
+}
+
+/// Adds a text: a word, a flag, or the value of one.
+fn push_text<'a, A: Allocator>(
+    words: &[Word],
+    text: &'a str,
+    given: &mut GivenWords<'a, A>,
+) -> Result<(), AllocError>
+    ensures { OnOk result
+        (given_of given.new ≡ with_text (flags_of words.now) (given_of given.old) text.now) }
+{
+    if is_kept(given.awaits, text) {
+        return push_flag(words, text, given);
+    }
+    given.words.push(text)?;
+    Ok(())
+}
+
+/// What these texts give a command of these words.
+fn given_words<'a, A: Allocator + Copy>(
+    alloc: A,
+    words: &[Word],
+    texts: &'a [String<A>],
+) -> Result<GivenWords<'a, A>, AllocError>
+    ensures { IfOk result (λ given. given_of given
+        ≡ given_by (flags_of words.now) (map string_bytes texts.entry.now)) }
+{
+    let found = Vec::new(alloc);
+    let flags = String::new(alloc);
+    let mut given = GivenWords {
+        words: found,
+        flags,
+        awaits: false,
+        is_known: true,
+    };
+    for text in texts {
+        push_text(words, text.as_str(), &mut given)?;
+    }
+    Ok(given)
+}
+
 /// Whether one of the texts stands where the command has no word left, or can't be the number that it wants there.
-fn has_stray<A: Allocator>(words: &[Word], texts: &[String<A>]) -> bool
-    ensures { result ≡ has_stray (numbers_of words.now) (map string_bytes texts.now) }
+fn has_stray(words: &[Word], texts: &[&str]) -> bool
+    ensures { result ≡ has_stray (numbers_of words.now) (map (λ text. text.now) texts.now) }
 {
     let Some((word, after)) = words.split_first() else {
         return !texts.is_empty();
@@ -70,9 +236,7 @@ fn has_stray<A: Allocator>(words: &[Word], texts: &[String<A>]) -> bool
         return has_stray(after, texts);
     };
     match texts.split_first() {
-        Some((text, others)) => {
-            (is_number && !may_be_number(text.as_str())) || has_stray(after, others)
-        }
+        Some((text, others)) => (is_number && !may_be_number(*text)) || has_stray(after, others),
         None => false,
     }
 }
@@ -105,17 +269,71 @@ pub(crate) fn command_named(name: &str) -> Option<Subcommand>
     named(last_subcommands(), name)
 }
 
-/// The tip for refused words, the first of which is the program's name: where one of them stands in the place of a number, or is one too
-/// many, and the command that they name reads standard input.
-pub(crate) fn tip_of<A: Allocator>(words: &[String<A>]) -> Option<&'static str>
-    ensures { option_map (λ tip. tip.now) result ≡ tip_of (map string_bytes words.now) }
+/// Whether what was given gets the tip of a command of these words.
+fn is_tipped<A: Allocator>(words: &[Word], given: &GivenWords<'_, A>) -> bool
+    ensures { result ≡ is_tipped (numbers_of words.now) (given_of given.now) }
+{
+    given.is_known && !given.awaits && has_stray(words, given.words.as_slice())
+}
+
+/// A tip whose call has these flags, where there are some, in the place of its own.
+fn with_flags<A: Allocator>(alloc: A, tip: &str, flags: &str) -> Result<String<A>, AllocError>
+    ensures { IfOk result (λ new. string_bytes new ≡ with_flags flags.now tip.now) }
+{
+    if flags.is_empty() {
+        return String::from_str(alloc, tip);
+    }
+    let (before, input) = tip.split_once('<').unwrap_or((tip, ""));
+    let (call, _) = before.split_once('-').unwrap_or((before, ""));
+    let new = format!(in alloc; "{call}{flags}<{input}")?;
+    Ok(new)
+}
+
+/// The tip of a command for the texts after its name.
+fn tip_for<A: Allocator + Copy>(
+    alloc: A,
+    command: Subcommand,
+    texts: &[String<A>],
+) -> Result<Option<String<A>>, AllocError>
+    ensures { IfOk result (λ tip. option_map string_bytes tip
+        ≡ tip_for (map string_bytes texts.now) (guide_of command)) }
+{
+    let given = given_words(alloc, command.words, texts)?;
+    if !is_tipped(command.words, &given) {
+        return Ok(None);
+    }
+    match command.tip {
+        Some(tip) => {
+            let new = with_flags(alloc, tip, given.flags.as_str())?;
+            Ok(Some(new))
+        }
+        None => Ok(None),
+    }
+}
+
+/// The command that words name, the first of which is the program's name, and the texts after its name.
+fn named_by<A: Allocator>(words: &[String<A>]) -> Option<(Subcommand, &[String<A>])>
+    ensures { joined (option_map
+        (λ call. tip_for (map string_bytes call.1.now) (guide_of call.0)) result)
+        ≡ tip_of (map string_bytes words.now) }
 {
     let (_, words) = words.split_first()?;
     let (name, texts) = words.split_first()?;
     let command = command_named(name.as_str())?;
-    if are_plain(texts) && has_stray(command.words, texts) {
-        command.tip
-    } else {
-        None
+    Some((command, texts))
+}
+
+/// The tip for refused words, the first of which is the program's name: where one of them stands in the place of a number, or is one too
+/// many, and the command that they name reads standard input. Its call has the flags that they have.
+pub(crate) fn tip_of<A: Allocator + Copy>(
+    alloc: A,
+    words: &[String<A>],
+) -> Result<Option<String<A>>, AllocError>
+    ensures { IfOk result
+        (λ tip. option_map string_bytes tip ≡ tip_of (map string_bytes words.now)) }
+{
+    match named_by(words) {
+        Some((command, texts)) => tip_for(alloc, command, texts),
+        None => Ok(None),
     }
 }
