@@ -13,7 +13,7 @@ use std::time::Clock;
 type Refused<'a> = (&'a [&'a str], &'a [u8]);
 
 /// Words of which one is in a number's place, or one too many: each text has a tip, with the right line.
-static TIPS: [Refused<'static>; 13] = [
+static TIPS: [Refused<'static>; 14] = [
     (
         &["shot", "game.bin", "game.movie"],
         b"error: invalid value 'game.movie' for '<K>': invalid digit found in string\n\n  tip: the movie is read from standard input: tas shot game.bin 60 < game.movie > frame60.ppm\n\nFor more information, try '--help'.\n",
@@ -66,6 +66,107 @@ static TIPS: [Refused<'static>; 13] = [
         &["talk", "game.bin", "game.movie", "lines"],
         b"error: unexpected argument 'lines' found\n\n  tip: the conversation is read from standard input: tas talk game.bin game.movie < lines\n\nUsage: tas talk [OPTIONS] [CART] [MOVIE] < LINES\n\nFor more information, try '--help'.\n",
     ),
+    (
+        &["check", "game.bin", "-"],
+        b"error: unexpected argument '-' found\n\n  tip: the movie is read from standard input: tas check game.bin < game.movie\n\nUsage: tas check <CART> < MOVIE\n\nFor more information, try '--help'.\n",
+    ),
+];
+
+/// Such words with flags beside them: the tip's call has these in the place of its own.
+static FLAGGED: [Refused<'static>; 10] = [
+    (
+        &[
+            "edit",
+            "game.bin",
+            "fix.script",
+            "game.movie",
+            "-o",
+            "out.movie",
+        ],
+        b"error: unexpected argument 'game.movie' found\n\n  tip: the movie is read from standard input: tas edit game.bin fix.script -o out.movie < game.movie\n\nUsage: tas edit [OPTIONS] <CART> <SCRIPT> < MOVIE\n\nFor more information, try '--help'.\n",
+    ),
+    (
+        &["migrate", "-o=out.movie", "game.bin", "old.movie"],
+        b"error: unexpected argument 'old.movie' found\n\n  tip: the movie is read from standard input: tas migrate game.bin -o=out.movie < old.movie\n\nUsage: tas migrate [OPTIONS] <CART> < MOVIE\n\nFor more information, try '--help'.\n",
+    ),
+    (
+        &[
+            "recover",
+            "--output",
+            "-",
+            "game.bin",
+            "game.journal",
+            "--until=9",
+        ],
+        b"error: unexpected argument 'game.journal' found\n\n  tip: the journal is read from standard input: tas recover game.bin --output - --until=9 < game.journal\n\nUsage: tas recover [OPTIONS] <CART> < JOURNAL\n\nFor more information, try '--help'.\n",
+    ),
+    (
+        &[
+            "search",
+            "game.bin",
+            "60",
+            "12",
+            "reach 1",
+            "game.movie",
+            "--names",
+            "ram.names",
+            "--hold",
+            "4",
+        ],
+        b"error: unexpected argument 'game.movie' found\n\n  tip: the movie is read from standard input: tas search game.bin 60 12 'reach byte:80 == 85' --names ram.names --hold 4 < game.movie\n\nUsage: tas search [OPTIONS] <CART> <FROM> <FRAMES> <GOAL> < MOVIE\n\nFor more information, try '--help'.\n",
+    ),
+    (
+        &[
+            "search",
+            "--first=1/2",
+            "game.bin",
+            "game.movie",
+            "60",
+            "reach 1",
+        ],
+        b"error: invalid value 'game.movie' for '<FROM>': invalid digit found in string\n\n  tip: the movie is read from standard input: tas search game.bin 60 12 'reach byte:80 == 85' --first=1/2 < game.movie\n\nFor more information, try '--help'.\n",
+    ),
+    (
+        &["verify", "--workers", "4", "game.digest"],
+        b"error: unexpected argument 'game.digest' found\n\n  tip: the manifest is read from standard input: tas verify --workers 4 < movies.manifest\n\nUsage: tas verify [OPTIONS] < MANIFEST\n\nFor more information, try '--help'.\n",
+    ),
+    (
+        &["cut", "game.bin", "game.movie", "-o", "out.movie", "60"],
+        b"error: invalid value 'game.movie' for '<FROM>': invalid digit found in string\n\n  tip: the movie is read from standard input: tas cut game.bin 60 120 -o out.movie < game.movie\n\nFor more information, try '--help'.\n",
+    ),
+    (
+        &[
+            "diff",
+            "game.bin",
+            "old.movie",
+            "new.movie",
+            "--output",
+            "d/fix.script",
+        ],
+        b"error: unexpected argument 'new.movie' found\n\n  tip: the newer movie is read from standard input: tas diff game.bin old.movie --output d/fix.script < new.movie\n\nUsage: tas diff [OPTIONS] <CART> <OLD> < MOVIE\n\nFor more information, try '--help'.\n",
+    ),
+    (
+        &[
+            "script",
+            "--cart",
+            "game.bin",
+            "--movie",
+            "game.movie",
+            "game.script",
+        ],
+        b"error: unexpected argument 'game.script' found\n\n  tip: the script is read from standard input: tas script --cart game.bin --movie game.movie < game.script\n\nUsage: tas script [OPTIONS] < SCRIPT\n\nFor more information, try '--help'.\n",
+    ),
+    (
+        &[
+            "talk",
+            "--journal",
+            "a.journal",
+            "game.bin",
+            "game.movie",
+            "lines",
+        ],
+        b"error: unexpected argument 'lines' found\n\n  tip: the conversation is read from standard input: tas talk game.bin game.movie --journal a.journal < lines\n\nUsage: tas talk [OPTIONS] [CART] [MOVIE] < LINES\n\nFor more information, try '--help'.\n",
+    ),
 ];
 
 /// Words that are refused for other reasons: these texts have no tip of the program's own.
@@ -112,6 +213,49 @@ static NO_TIPS: [Refused<'static>; 10] = [
     ),
 ];
 
+/// A word too many beside a flag of another command, one without its value, or one that the tip could not have as it was given: no tip.
+static NO_FLAGS: [Refused<'static>; 8] = [
+    (
+        &[
+            "edit",
+            "game.bin",
+            "fix.script",
+            "game.movie",
+            "--journal",
+            "a.journal",
+        ],
+        b"error: unexpected argument 'game.movie' found\n\nUsage: tas edit [OPTIONS] <CART> <SCRIPT> < MOVIE\n\nFor more information, try '--help'.\n",
+    ),
+    (
+        &["check", "game.bin", "game.movie", "-o", "out.movie"],
+        b"error: unexpected argument 'game.movie' found\n\nUsage: tas check <CART> < MOVIE\n\nFor more information, try '--help'.\n",
+    ),
+    (
+        &["migrate", "game.bin", "old.movie", "-o"],
+        b"error: unexpected argument 'old.movie' found\n\nUsage: tas migrate [OPTIONS] <CART> < MOVIE\n\nFor more information, try '--help'.\n",
+    ),
+    (
+        &["migrate", "game.bin", "old.movie", "-o", "--output"],
+        b"error: unexpected argument 'old.movie' found\n\nUsage: tas migrate [OPTIONS] <CART> < MOVIE\n\nFor more information, try '--help'.\n",
+    ),
+    (
+        &["migrate", "game.bin", "old.movie", "-o", ""],
+        b"error: unexpected argument 'old.movie' found\n\nUsage: tas migrate [OPTIONS] <CART> < MOVIE\n\nFor more information, try '--help'.\n",
+    ),
+    (
+        &["migrate", "game.bin", "old.movie", "-o", "my out.movie"],
+        b"error: unexpected argument 'old.movie' found\n\nUsage: tas migrate [OPTIONS] <CART> < MOVIE\n\nFor more information, try '--help'.\n",
+    ),
+    (
+        &["migrate", "game.bin", "old.movie", "-oout.movie"],
+        b"error: unexpected argument 'old.movie' found\n\nUsage: tas migrate [OPTIONS] <CART> < MOVIE\n\nFor more information, try '--help'.\n",
+    ),
+    (
+        &["migrate", "game.bin", "old.movie", "--", "-o"],
+        b"error: unexpected argument 'old.movie' found\n\nUsage: tas migrate [OPTIONS] <CART> < MOVIE\n\nFor more information, try '--help'.\n",
+    ),
+];
+
 fn check_refused<R: Threads + Wait + Clock + Abort + Sync>(
     rt: &R,
     alloc: Global,
@@ -126,6 +270,16 @@ fn check_refused<R: Threads + Wait + Clock + Abort + Sync>(
 #[test]
 fn a_word_in_the_place_of_standard_input_gets_a_tip(rt: HostRuntime) {
     check_refused(&rt, rt.alloc(), TIPS.as_slice());
+}
+
+#[test]
+fn a_tip_has_the_flags_that_were_given(rt: HostRuntime) {
+    check_refused(&rt, rt.alloc(), FLAGGED.as_slice());
+}
+
+#[test]
+fn words_with_other_flags_get_no_tip(rt: HostRuntime) {
+    check_refused(&rt, rt.alloc(), NO_FLAGS.as_slice());
 }
 
 #[test]
