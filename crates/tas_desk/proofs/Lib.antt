@@ -3,6 +3,7 @@ pub mod CommitLemmas
 pub mod CutLemmas
 pub mod GainLemmas
 pub mod LockedLemmas
+pub mod PartLemmas
 pub mod PlanLemmas
 pub mod SeatLemmas
 pub mod WorkLemmas

@@ -1,3 +1,4 @@
 -- What names shapes of the code: invariants and private contracts need it, no reader of a promise does.
 pub mod Counting
 pub mod Exporting
+pub mod Parting

@@ -3,6 +3,7 @@ pub mod Commits
 pub mod Exports
 pub mod Inside
 pub mod Locked
+pub mod Parts
 pub mod Seats
 pub mod States
 pub mod Work

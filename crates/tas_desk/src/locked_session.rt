@@ -22,10 +22,12 @@ ghost use Rattle.tas_desk.specs.Inside.Counting.{IsCounted};
 ghost use Rattle.tas_desk.specs.Inside.Exporting.{FoundRange};
 ghost use Rattle.tas_desk.specs.Work.{IsJobFrom, Takes};
 ghost use Rattle.tas_desk.specs.Closing.{made_by};
+ghost use Rattle.tas_desk.specs.Parts.{one_part};
 ghost use Rattle.tas_desk.specs.Seats.{seat_of, entry_of, IsWhole, IsSettled, AnswersEdit};
 
 use crate::export::{ExportError, is_in_range};
 use crate::history::part_of;
+use crate::parts::part_len_at;
 use crate::plan::planned;
 use crate::{
     Closed, CommitError, EditError, History, Name, OfferError, Offered, Plan, Receipt, Seat,
@@ -293,6 +295,25 @@ impl<N: Name, W: CloseOnDrop, A: Allocator + Copy> LockedSession<N, W, A> {
         let at = self.session.at();
         let entries = part_of(alloc, self.session.journal(), from, most)?;
         Ok(History { at, entries })
+    }
+
+    /// Copies the part of the history that begins at a place.
+    pub fn history_part<R: Wait>(
+        &self,
+        rt: &R,
+        alloc: A,
+        seat: &mut Seat<N, A>,
+        from: usize,
+    ) -> Result<History<A>, AllocError>
+        ensures begins { IsPrefix seat.old.front self.now.journal }
+        ensures seat { seat.new
+            ≡ seat_of seat.old.number seat.old.made self.now.journal seat.old.zone }
+        ensures at { IfOk result (λ history. history.at ≡ length self.now.journal) }
+        ensures entries { IfOk result
+            (λ history. history.entries.items ≡ one_part (drop from self.now.journal)) }
+    {
+        let most = part_len_at(self.session.journal(), from);
+        self.history(rt, alloc, seat, from, most)
     }
 
     /// Copies the movie, where it has these frames and they are few enough for an export.

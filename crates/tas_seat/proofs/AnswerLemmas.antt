@@ -1,6 +1,6 @@
 -- Answers to requests.
 use Rattle.std.proofs.Common.{◌≡◌, ℕ, ◌+◌, ◌≤◌, List, [], length, true, false, Option, Some, Result, Ok, Err, IfOk, inl, inr, refl, sym, ap, subst, ◌∙◌}
-use Rattle.std.specs.Prelude.{MatchOption, MatchResult, take, drop}
+use Rattle.std.specs.Prelude.{MatchOption, MatchResult, drop}
 use Rattle.vcs_tia.specs.Image.{ppm_bytes}
 use Rattle.tas_movie.specs.Content.{MovieContent, most_inputs}
 use Rattle.tas_movie.specs.Text.{text2}
@@ -14,6 +14,7 @@ use Rattle.tas_published.specs.declared.errors.ShotError.{ShotError}
 use Rattle.tas_published.specs.declared.errors.ShotError.TheVariants.{NoEntry as NoShotEntry, NoFrame as NoShotFrame, Memory as NoShotMemory, Halted as ShotHalted}
 use Rattle.tas_published.specs.declared.errors.StateError.{StateError}
 use Rattle.tas_published.specs.declared.errors.StateError.TheVariants.{NoEntry as NoStateEntry, NoFrame as FewFrames, Memory as NoStateMemory}
+use Rattle.tas_desk.specs.Parts.{one_part}
 use Rattle.tas_desk.specs.Seats.{SeatContent, HasSeen, KeepsZone, IsZoneViewed}
 use Rattle.tas_desk.specs.States.{IsStateFor, IsZoneReached}
 use Rattle.tas_desk.specs.Zones.{IsShared}
@@ -31,7 +32,7 @@ use Rattle.tas_seat.specs.declared.edit_requests.EditRequest.TheVariants.{Retouc
 use Rattle.tas_seat.specs.Turns.{standing_at, standing_of}
 use Rattle.tas_seat.specs.Requests.{Rests, Plays, Gains, GainsUnless, look_text, look_places, IsLooked, kept_frames}
 use Rattle.tas_seat.specs.HistoryText.{history_reply_text}
-use Rattle.tas_seat.specs.Seats.{talk_state_at, most_entries, KeepsWindow, IsZonePlayed, LookLeavesZone, IsAnswered}
+use Rattle.tas_seat.specs.Seats.{talk_state_at, KeepsWindow, IsZonePlayed, LookLeavesZone, IsAnswered}
 use Rattle.tas_seat.specs.Outcomes.{IsEditAnswered, IsMiscounted, IsUnanswered, HasAnswer, KeepsSeat, HasNoAnswer}
 use Rattle.tas_seat.specs.Inside.Looking.{IsShotFound, IsStateFound, AsksForState, HasText, HasReport}
 use Rattle.tas_seat.proofs.SeatLemmas.{looked_at, rests, green_at, gains_at, answered_here}
@@ -206,7 +207,7 @@ unshared_share A before now seen zone = ([], answered_here A before now Share (r
 
 -- ---- the history
 
-pub history_answered : (A : Type 0) (before now : SeatContent A) (from at : ℕ) (entries : List (Entry A)) → KeepsZone before now → at ≡ length now.front → entries ≡ take most_entries (drop from now.front) → HasAnswer A before now (History from) (history_reply_text at from entries)
+pub history_answered : (A : Type 0) (before now : SeatContent A) (from at : ℕ) (entries : List (Entry A)) → KeepsZone before now → at ≡ length now.front → entries ≡ one_part (drop from now.front) → HasAnswer A before now (History from) (history_reply_text at from entries)
 history_answered A before now from at entries keeps here are = (
   [],
   (

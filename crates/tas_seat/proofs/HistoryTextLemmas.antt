@@ -3,9 +3,9 @@ use Rattle.std.proofs.Common.{◌≡◌, ℕ, suc, ◌+◌, ◌<◌, ◌≤◌, 
 use Rattle.std.specs.Prelude.{max}
 use Rattle.std.proofs.lemmas.List.{append-nil, length-drop, length-take, length-take-le, take_more}
 use Rattle.tas_published.specs.declared.entry.Entry.{Entry}
+use Rattle.tas_desk.specs.Parts.{most_entries, last_end, one_part}
 use Rattle.tas_language.specs.History.{entry_text}
 use Rattle.tas_seat.specs.HistoryText.{entry_lines}
-use Rattle.tas_seat.specs.Seats.{most_entries}
 
 pub no_lines : (A : Type 0) (first : ℕ) → [] ≡ entry_lines {A = A} first []
 unfolding entry_lines
@@ -32,10 +32,10 @@ lines_more {A} first number i entries entry text next lt here at so_far is =
     ∙ sym (lines_push first (take i entries) entry) ∙ ap (entry_lines first) (sym more)
 
 -- the entries that are reported are within the history
-pub told_within : {A : Type 0} (history entries : List (Entry A)) (from at : ℕ) → at ≡ length history → entries ≡ take most_entries (drop from history) → from + length entries ≤ max at from
+pub told_within : {A : Type 0} (history entries : List (Entry A)) (from at : ℕ) → at ≡ length history → entries ≡ one_part (drop from history) → from + length entries ≤ max at from
 told_within {A} history entries from at here are =
     let few : length entries ≤ length (drop from history) =
-    subst (λ (l : List (Entry A)). length l ≤ length (drop from history)) (sym are) (omega (arith, length-take most_entries (drop from history))) in
+    subst (λ (l : List (Entry A)). length l ≤ length (drop from history)) (sym are) (omega (arith, length-take (last_end (drop from history) most_entries) (drop from history))) in
     let left = length-drop from history in
     omega (arith, few, left, here)
 

@@ -1,10 +1,11 @@
 -- At which histories a seat is answered, and what the seat is afterwards.
-use Rattle.std.specs.Prelude.{◌≡◌, ℕ, ◌+◌, List, [], ◌∷◌, ◌++◌, length, take, drop, Bool, if◌then◌else◌, MatchOption, ◌⊎◌}
+use Rattle.std.specs.Prelude.{◌≡◌, ℕ, ◌+◌, List, [], ◌∷◌, ◌++◌, length, drop, Bool, if◌then◌else◌, MatchOption, ◌⊎◌}
 use mathlib.Core.List.{IsPrefix}
 use Rattle.tas_movie.specs.declared.edit.Edit.{Edit}
 use Rattle.tas_published.specs.declared.entry.Entry.{Entry}
 use Rattle.tas_green.specs.Window.{IsPlayedNear, both}
 use Rattle.tas_published.specs.History.{movie_of}
+use Rattle.tas_desk.specs.Parts.{one_part}
 use Rattle.tas_desk.specs.Seats.{SeatContent, entry_of}
 use Rattle.tas_desk.specs.Work.{IsTally, KeepsCart}
 use Rattle.tas_desk.specs.Zones.{ZoneContent, CutsWindow, IsMadeFor}
@@ -98,14 +99,10 @@ pub record IsAnsweredAt (A : Type 0) (before now : SeatContent A) (request : Req
 abbrev pub IsPictureAt : {A : Type 0} → SeatContent A → ℕ → List ℕ → SeatContent A → Type 0
 IsPictureAt {A = A} before k answer now = IsAnsweredAt A before now (Picture k) answer []
 
--- how many entries one answer reports at most
-abbrev pub most_entries : ℕ
-most_entries = 256
-
--- `history FROM` is answered at some history: by entries of it, or memory was refused. It leaves the seat's greenzone
+-- `history FROM` is answered at some history: by the part of it that begins with its entry FROM, or memory was refused. It leaves the seat's greenzone
 pub record IsHistoryAnswered (A : Type 0) (before now : SeatContent A) (from : ℕ) (answer : List ℕ) : Type 0 where
   pub no_memory : Bool
-  pub answer_is : answer ≡ (if no_memory then reply_text OutOfMemory else history_reply_text (length now.front) from (take most_entries (drop from now.front)))
+  pub answer_is : answer ≡ (if no_memory then reply_text OutOfMemory else history_reply_text (length now.front) from (one_part (drop from now.front)))
   pub zone : now.zone ≡ before.zone
   pub seat : IsSeatAfter before now.front [] now
 

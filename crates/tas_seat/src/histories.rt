@@ -13,9 +13,6 @@ use tas_desk::{CloseOnDrop, Desk, Entry, Name, Seat};
 use tas_engines::RunFault;
 use tas_language::{Reply, history_answer, push_entry};
 
-/// How many entries one answer to `history` has at most.
-pub const MAX_ENTRIES: usize = 256;
-
 /// The lines of some entries, the first of which has this number.
 fn entry_lines<A: Allocator + Copy>(
     alloc: A,
@@ -61,7 +58,7 @@ pub fn answer_history<N: Name, W: CloseOnDrop, A: Allocator + Copy, R: Wait>(
         (HasNoAnswer seat.old seat.new (HistoryLine from)) }
     ensures entry { IfErr result (λ fault. fault ≢ NoEntry) }
 {
-    let Ok(history) = desk.history(rt, alloc, seat, from, MAX_ENTRIES) else {
+    let Ok(history) = desk.history_part(rt, alloc, seat, from) else {
         return answer_of_reply(alloc, Reply::OutOfMemory);
     };
     let bytes = list_entries(alloc, history.at, from, history.entries.as_slice());

@@ -290,8 +290,8 @@ pub fn answer_request<N: Name, W: CloseOnDrop, A: Allocator + Copy, R: Wait>(
     // The pictures of a strip are answered one after the other, each at a history that begins with all that the seat
     // had seen.
     // Refused: strip_leaves_out_its_last_frame, first_answer_of_a_strip_alone*.
-    // `history FROM` is answered with up to 256 entries of a history that begins with all that the seat had seen, by
-    // the lines of a script that make them.
+    // `history FROM` is answered with the part of a history that begins with its entry FROM, by the lines of a script
+    // that make it; the history begins with all that the seat had seen.
     // Refused: history_begins_one_entry_later.
     // `press`, `release`, `repeat` and `copy` are each one edit of what this history's movie has, refused and made as a
     // script's edit is.

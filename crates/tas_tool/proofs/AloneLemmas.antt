@@ -1,5 +1,5 @@
 -- A conversation on a desk of one seat: each line is answered at what the lines before it made.
-use Rattle.std.proofs.Common.{◌≡◌, ℕ, ◌+◌, ◌≤◌, List, [], ◌∷◌, ◌++◌, length, take, drop, Bool, true, false, Option, Some, None, Result, Ok, Err, inl, inr, refl, sym, ap, subst, ◌∙◌, arith, append-nil}
+use Rattle.std.proofs.Common.{◌≡◌, ℕ, ◌+◌, ◌≤◌, List, [], ◌∷◌, ◌++◌, length, take, drop, Bool, true, false, ◌&&◌, Option, Some, None, Result, Ok, Err, inl, inr, refl, sym, ap, subst, ◌∙◌, arith, append-nil}
 use Rattle.std.specs.Prelude.{map, if◌then◌else◌, ◌==◌, nat_lt}
 use Rattle.std.proofs.lemmas.Bool.{eqb-true}
 use Rattle.std.proofs.lemmas.List.{length-map, map-append, take-map, drop-map}
@@ -20,6 +20,7 @@ use Rattle.tas_language.specs.declared.retouch.Retouch.{Retouch as Retouching}
 use Rattle.tas_language.specs.declared.retouch.Retouch.TheVariants as retouch
 use Rattle.tas_published.specs.declared.entry.Entry.{Entry}
 use Rattle.tas_published.specs.History.{most_edits, movie_of, entries_of}
+use Rattle.tas_desk.specs.Parts.{most_entries, inputs_of, inserts_at, is_exchange, last_end, one_part}
 use Rattle.tas_desk.specs.Seats.{SeatContent}
 use Rattle.tas_desk.specs.Zones.{ZoneContent}
 use Rattle.tas_desk.proofs.SeatLemmas.{count_by-cons}
@@ -40,7 +41,7 @@ use Rattle.tas_language.specs.declared.request.Request.TheVariants.{Do, Retouch,
 use Rattle.tas_seat.specs.HistoryText.{entry_lines, history_reply_text}
 use Rattle.tas_seat.specs.Edits.{edits_by_command, requested_edits, made_between}
 use Rattle.tas_seat.specs.Requests.{TalkState, IsPictureAnswer, StripAnswer, AreShown, strip_answers, IsAnswerTo as IsAnswerAt}
-use Rattle.tas_seat.specs.Seats.{most_entries, talk_state_at, IsSeatAfter, IsPictureAt, IsAnsweredAt, entries_from, IsHistoryAnswered, IsRequestAnswered}
+use Rattle.tas_seat.specs.Seats.{talk_state_at, IsSeatAfter, IsPictureAt, IsAnsweredAt, entries_from, IsHistoryAnswered, IsRequestAnswered}
 use Rattle.tas_seat.specs.declared.conversation.Subject.{Subject}
 use Rattle.tas_seat.specs.declared.conversation.Subject.TheVariants as about
 use Rattle.tas_seat.specs.Subjects.{subject_of}
@@ -53,6 +54,7 @@ use Rattle.tas_seat.specs.Talk.{Exchange as SeatExchange, IsExchange as IsSeatEx
 use Rattle.tas_seat.proofs.HistoryLemmas.{Leaves, prefix_length, by_length, by_rest, front_length, leaves_after, strip_leaves, exchange_leaves, exchanges_leave, rested, Rested}
 use Rattle.tas_tool.specs.Talk.{own_entries, IsOwnHistory, IsAnswerTo, edits_between, DraftedState, drafted, IsOwnCommit, IsOutsideAnswerOf, IsInsideAnswerOf, IsDraftedAnswer, IsLineAnswer, Exchange, IsExchange, AreExchanges, TalkEnds, IsCarriedOut, LeavesMovie, IsTalkLeaving, lines_of, answers_of}
 use Rattle.tas_tool.specs.Inside.Alone.{SeesOwn}
+use Rattle.tas_tool.proofs.PartLemmas.{AsksAlike, ends_alike}
 
 -- what the seat has seen comes to, and its greenzone
 abbrev pub state_of : {A : Type 0} → SeatContent A → TalkState
@@ -190,15 +192,66 @@ part_reported {A} from most entries =
     let each : Entry A → Reported = λ (e : Entry A). reported e in
     sym (ap (λ (l : List Reported). take most l) (drop-map each from entries) ∙ take-map each most (drop from entries))
 
--- histories of which the same is reported are answered alike
-same_history : {A B : Type 0} (made from most : ℕ) (xs : List (Entry A)) (ys : List (Entry B)) → all_reported xs ≡ all_reported ys
+-- an entry of which this is reported
+abbrev retold : Reported → Entry (Unit {0})
+retold told = record { seat = told.seat; serial = 0; edit = told.edit }
+
+same_inputs : {A : Type 0} (edit : Edit A) → inputs_of (edit_content edit) ≡ inputs_of edit
+same_inputs (Load cart) = refl
+same_inputs (Insert at inputs) = refl
+same_inputs (Replace at inputs) = refl
+same_inputs (Delete at count) = refl
+
+same_insertion : {A : Type 0} (edit : Edit A) (place : ℕ) → inserts_at (edit_content edit) place ≡ inserts_at edit place
+same_insertion (Load cart) place = refl
+same_insertion (Insert at inputs) place = refl
+same_insertion (Replace at inputs) place = refl
+same_insertion (Delete at count) place = refl
+
+same_exchange : {A : Type 0} (edit next : Edit A) → is_exchange (edit_content edit) (edit_content next) ≡ is_exchange edit next
+same_exchange (Load cart) next = refl
+same_exchange (Insert at inputs) next = refl
+same_exchange (Replace at inputs) next = refl
+same_exchange (Delete at count) next = same_insertion next at
+
+same_asked : (A : Type 0) → AsksAlike (λ (e : Entry A). retold (reported e))
+same_asked A = record {
+  inputs = λ (entry : Entry A). same_inputs entry.edit;
+  pairs = λ (entry next : Entry A). ap (λ (b : Bool). (entry.seat == next.seat) && b) (same_exchange entry.edit next.edit);
+}
+
+all_retold : {A : Type 0} (entries : List (Entry A)) → map retold (all_reported entries) ≡ map (λ (e : Entry A). retold (reported e)) entries
+all_retold [] = refl
+all_retold {A} (entry ∷ entries) = ap (λ (l : List (Entry (Unit {0}))). retold (reported entry) ∷ l) (all_retold entries)
+
+end_retold : {A : Type 0} (entries : List (Entry A)) (n : ℕ) → last_end entries n ≡ last_end (map retold (all_reported entries)) n
+end_retold {A} entries n =
+    sym (ends_alike (λ (e : Entry A). retold (reported e)) (same_asked A) entries n)
+    ∙ ap (λ (l : List (Entry (Unit {0}))). last_end l n) (sym (all_retold entries))
+
+dropped_reported : {A : Type 0} (from : ℕ) (entries : List (Entry A)) → all_reported (drop from entries) ≡ drop from (all_reported entries)
+dropped_reported {A} from entries = sym (drop-map (λ (e : Entry A). reported e) from entries)
+
+same_end : {A B : Type 0} (from n : ℕ) (xs : List (Entry A)) (ys : List (Entry B)) → all_reported xs ≡ all_reported ys → last_end (drop from xs) n ≡ last_end (drop from ys) n
+same_end {A} {B} from n xs ys same =
+    let rest : all_reported (drop from xs) ≡ all_reported (drop from ys) = dropped_reported from xs ∙ ap (λ (l : List Reported). drop from l) same ∙ sym (dropped_reported from ys) in
+    end_retold (drop from xs) n ∙ ap (λ (l : List Reported). last_end (map retold l) n) rest ∙ sym (end_retold (drop from ys) n)
+
+same_entries : {A B : Type 0} (made from most : ℕ) (xs : List (Entry A)) (ys : List (Entry B)) → all_reported xs ≡ all_reported ys
     → history_reply_text made from (take most (drop from xs)) ≡ history_reply_text made from (take most (drop from ys))
-same_history {A} {B} made from most xs ys same =
+same_entries {A} {B} made from most xs ys same =
     let parts : all_reported (take most (drop from xs)) ≡ all_reported (take most (drop from ys)) =
     part_reported from most xs ∙ ap (λ (l : List Reported). take most (drop from l)) same ∙ sym (part_reported from most ys) in
     same_reply made from (take most (drop from xs))
     ∙ ap (λ (l : List Reported). history_text made from (length l) (reported_lines from l)) parts
     ∙ sym (same_reply made from (take most (drop from ys)))
+
+-- histories of which the same is reported are answered alike
+same_history : {A B : Type 0} (made from : ℕ) (xs : List (Entry A)) (ys : List (Entry B)) → all_reported xs ≡ all_reported ys
+    → history_reply_text made from (one_part (drop from xs)) ≡ history_reply_text made from (one_part (drop from ys))
+same_history {A} {B} made from xs ys same =
+    same_entries made from (last_end (drop from xs) most_entries) xs ys same
+    ∙ ap (λ (n : ℕ). history_reply_text made from (take n (drop from ys))) (same_end from most_entries xs ys same)
 
 -- of a history that is a seat's alone the same is reported as of its edits
 own_reported : {A : Type 0} (serial : ℕ) (front : List (Entry A)) → entries_of 0 front ≡ length front → all_reported front ≡ all_reported (entries_from 0 serial (edits_seen front))
@@ -324,10 +377,10 @@ own_history A before now from answer is seen own =
     let long : length now.front ≡ length (edits_seen before.front) = ap (λ (l : List (Entry A)). length l) same ∙ sym (length-map before.front (λ (e : Entry A). edit_content e.edit)) in
     let all : all_reported now.front ≡ all_reported (own_entries (edits_seen before.front)) =
     own_reported 0 now.front own.alone ∙ ap (λ (l : List (Entry A)). all_reported (own_entries (edits_seen l))) same in
-    let text : history_reply_text (length now.front) from (take most_entries (drop from now.front))
-    ≡ history_reply_text (length (edits_seen before.front)) from (take most_entries (drop from (own_entries (edits_seen before.front)))) =
-    same_history (length now.front) from most_entries now.front (own_entries (edits_seen before.front)) all
-    ∙ ap (λ (n : ℕ). history_reply_text n from (take most_entries (drop from (own_entries (edits_seen before.front))))) long in
+    let text : history_reply_text (length now.front) from (one_part (drop from now.front))
+    ≡ history_reply_text (length (edits_seen before.front)) from (one_part (drop from (own_entries (edits_seen before.front)))) =
+    same_history (length now.front) from now.front (own_entries (edits_seen before.front)) all
+    ∙ ap (λ (n : ℕ). history_reply_text n from (one_part (drop from (own_entries (edits_seen before.front))))) long in
     record {
       no_memory = is.no_memory;
       answer_is = is.answer_is ∙ ap (λ (l : List ℕ). if is.no_memory then reply_text OutOfMemory else l) text;

@@ -5,6 +5,7 @@ pub mod MakingLemmas
 pub mod ExportLemmas
 pub mod FilmLemmas
 pub mod MovieScriptLemmas
+pub mod PartLemmas
 pub mod AloneLemmas
 pub mod TalkRunLemmas
 pub mod HoldingLemmas

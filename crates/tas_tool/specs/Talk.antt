@@ -1,5 +1,5 @@
 -- Conversations on a desk of one seat: each line is answered at what the lines before it made.
-use Rattle.std.specs.Prelude.{◌≡◌, ℕ, ◌+◌, List, [], ◌∷◌, ◌++◌, length, take, drop, Bool, true, if◌then◌else◌, Option, Some, None, Result, Ok, Err, ◌⊎◌}
+use Rattle.std.specs.Prelude.{◌≡◌, ℕ, ◌+◌, List, [], ◌∷◌, ◌++◌, length, drop, Bool, true, if◌then◌else◌, Option, Some, None, Result, Ok, Err, ◌⊎◌}
 use Rattle.std.specs.List.{flat_map}
 use Rattle.std.specs.Io.KnownBytes.{Appends, Consumes, IsAtEnd, Keeps}
 use Rattle.byte_text.specs.Splitting.{NoByte}
@@ -7,6 +7,7 @@ use Rattle.vcs_inputs.specs.Cart.{is_cart_size}
 use Rattle.tas_movie.specs.Content.{MovieContent, blank_movie}
 use Rattle.tas_movie.specs.Text.{line}
 use Rattle.tas_published.specs.declared.entry.Entry.{Entry}
+use Rattle.tas_desk.specs.Parts.{one_part}
 use Rattle.tas_engines.specs.declared.fault.ReadFault.{ReadFault}
 use Rattle.tas_engines.specs.declared.fault.ReadFault.TheVariants.{Failed}
 use Rattle.tas_engines.specs.declared.fault.RunFault.{RunFault}
@@ -34,7 +35,7 @@ use Rattle.tas_seat.specs.Conversations.{IsBeginAnswer, IsCommitAnswer}
 use Rattle.tas_published.specs.Strokes.{edited_by}
 use Rattle.tas_engines.specs.Changes.{EditContent}
 use Rattle.tas_seat.specs.Edits.{requested_edits, made_between}
-use Rattle.tas_seat.specs.Seats.{entries_from, most_entries}
+use Rattle.tas_seat.specs.Seats.{entries_from}
 use Rattle.tas_seat.specs.HistoryText.{history_reply_text}
 use Rattle.tas_seat.specs.Talk.{IsQuit, AsksToLook, IsAnswerCutOff, last_answer}
 use Rattle.tas_tool.specs.Scripts.{IsUnmade, standing_at_start}
@@ -46,10 +47,10 @@ use Rattle.tas_tool.specs.MovieScripts.{edits_of_movie, standing_of_movie}
 abbrev pub own_entries : List EditContent → List (Entry (Unit {0}))
 own_entries edits = entries_from 0 0 edits
 
--- the answer to `history FROM`, where these edits were made: the entries from there on, at most as many as one answer reports; or memory was refused
+-- the answer to `history FROM`, where these edits were made: the part of them that begins there; or memory was refused
 pub record IsOwnHistory (state : TalkState) (edits : List EditContent) (from : ℕ) (answer : List ℕ) (next : TalkState) : Type 0 where
   pub no_memory : Bool
-  pub answer_is : answer ≡ (if no_memory then reply_text OutOfMemory else history_reply_text (length edits) from (take most_entries (drop from (own_entries edits))))
+  pub answer_is : answer ≡ (if no_memory then reply_text OutOfMemory else history_reply_text (length edits) from (one_part (drop from (own_entries edits))))
   pub rests : next ≡ state
 
 -- the answer to a request at what was made and kept so far, and what is made and kept then. `quit` gets no answer: it ends the

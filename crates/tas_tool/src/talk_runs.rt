@@ -175,8 +175,8 @@ pub fn talk_run<A: Allocator + Copy, T: Wait, R: Read, W: Write>(
     output: &mut W,
 ) -> Talked<A>
     // A conversation is one of tas_seat on a desk of one seat: each line is answered at what the lines before it made
-    // and left. `history FROM` is answered with up to 256 of the edits that these lines made, in order, from number
-    // FROM on, or `out of memory`.
+    // and left. `history FROM` is answered with the part of the edits that these lines made which begins with number
+    // FROM, in order, or `out of memory`.
     // Refused: none, tas_seat has them.
     // A draft of a conversation is one of the movie that the lines before `begin` made. Lines in it leave what was made
     // as it is; `commit` makes what the draft comes to, all of it or nothing.

@@ -11,18 +11,18 @@ use Rattle.tas_seat.proofs.histories.answer_history.Goals as goal
 
 pub returns-in_default-clause-answer : goal.returns-in_default-clause-answer
 returns-in_default-clause-answer g c =
-    told_text c.args.seat.now c.history.new.seat (History c.args.from) (reply_text OutOfMemory) c.answer_of_reply.result (λ bytes. bytes.items) c.answer_of_reply.ensures
-    (lost_history g.row.A.Denot c.args.seat.now c.history.new.seat c.args.from c.history.ensures.seat)
+    told_text c.args.seat.now c.history_part.new.seat (History c.args.from) (reply_text OutOfMemory) c.answer_of_reply.result (λ bytes. bytes.items) c.answer_of_reply.ensures
+    (lost_history g.row.A.Denot c.args.seat.now c.history_part.new.seat c.args.from c.history_part.ensures.seat)
 
 pub list_entries-bytes-requires : goal.list_entries-bytes-requires
-list_entries-bytes-requires g c = told_within c.history.new.seat.front c.as_slice.result.now c.args.from c.in-Ok.history.at c.in-Ok.ensures.at (c.as_slice.ensures.value ∙ c.in-Ok.ensures.entries)
+list_entries-bytes-requires g c = told_within c.history_part.new.seat.front c.as_slice.result.now c.args.from c.in-Ok.history.at c.in-Ok.ensures.at (c.as_slice.ensures.value ∙ c.in-Ok.ensures.entries)
 
 pub returns-clause-answer : goal.returns-clause-answer
 returns-clause-answer g c =
-    let told = history_answered g.row.A.Denot c.args.seat.now c.history.new.seat c.args.from c.in-Ok.history.at c.as_slice.result.now c.history.ensures.seat c.in-Ok.ensures.at (c.as_slice.ensures.value ∙ c.in-Ok.ensures.entries) in
-    answered_or c.args.seat.now c.history.new.seat (History c.args.from) c.list_entries-bytes.result c.answer_or_refusal.result (λ bytes. bytes.items) c.answer_or_refusal.ensures
-    (IfOk-weaker c.list_entries-bytes.result _ _ (λ bytes is. subst (HasAnswer g.row.A.Denot c.args.seat.now c.history.new.seat (History c.args.from)) (sym is) told) c.list_entries-bytes.ensures)
-    (lost_history g.row.A.Denot c.args.seat.now c.history.new.seat c.args.from c.history.ensures.seat)
+    let told = history_answered g.row.A.Denot c.args.seat.now c.history_part.new.seat c.args.from c.in-Ok.history.at c.as_slice.result.now c.history_part.ensures.seat c.in-Ok.ensures.at (c.as_slice.ensures.value ∙ c.in-Ok.ensures.entries) in
+    answered_or c.args.seat.now c.history_part.new.seat (History c.args.from) c.list_entries-bytes.result c.answer_or_refusal.result (λ bytes. bytes.items) c.answer_or_refusal.ensures
+    (IfOk-weaker c.list_entries-bytes.result _ _ (λ bytes is. subst (HasAnswer g.row.A.Denot c.args.seat.now c.history_part.new.seat (History c.args.from)) (sym is) told) c.list_entries-bytes.ensures)
+    (lost_history g.row.A.Denot c.args.seat.now c.history_part.new.seat c.args.from c.history_part.ensures.seat)
 
 pub returns-in_default-clause-entry : goal.returns-in_default-clause-entry
 returns-in_default-clause-entry g c = memory_alone _ _ c.answer_of_reply.result c.answer_of_reply.ensures
