@@ -122,8 +122,10 @@ impl<N: Name, W: CloseOnDrop, A: Allocator + Copy> Desk<N, W, A> {
         // A part of the history has the longest beginning of the front's entries from a place on that has at most 256 of
         // them, puts in at most 262,144 inputs, and doesn't end between a deletion and the same seat's insertion in that
         // place; and how many entries the front has; the seat's zone stays.
-        // Refused: part_ends_between_the_edits_of_a_commit, part_has_a_hundred_entries_more,
-        // part_puts_in_two_movies_inputs, part_of_one_entry_where_two_may_be_one*, part_begins_one_entry_later*.
+        // Refused: part_ends_between_the_edits_of_a_commit, part_is_counted_in_entries_alone,
+        // part_has_a_hundred_entries_more, part_puts_in_two_movies_inputs, part_has_255_entries_at_most*,
+        // edits_of_two_seats_may_be_one_commit*, insertion_before_the_deletion_may_be_its_commit*,
+        // replaced_inputs_are_not_counted*.
         ensures seat { KeepsZone seat.old seat.new }
         ensures at { IfOk result (λ history. history.at ≡ length seat.new.front) }
         ensures entries { IfOk result

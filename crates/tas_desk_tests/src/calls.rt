@@ -8,6 +8,7 @@ use crate::changes::{Change, fire};
 use crate::checks::check_that;
 use crate::desks::{Task, lend};
 use crate::gates::{InOrder, Open};
+use crate::part_tests::is_part;
 use crate::plan_tests::{first_byte, is_told};
 use crate::plans::{Append, FirstOver};
 use std::alloc::Global;
@@ -56,6 +57,8 @@ pub enum Call {
     Appended(u32, usize, Result<Receipt, EditError>),
     /// The entries of the history from a place on, and how many of them at most: the number of edits, and the entries in words.
     Told(u32, (usize, usize), u64, &'static str),
+    /// The part of the history that begins at a place: the number of edits, and the entries in words.
+    Part(u32, usize, u64, &'static str),
     /// The machine in which a frame begins, where the movie has those up to another: the number of edits, of frames that are played,
     /// and the first byte of memory.
     Began(u32, (usize, usize), Result<(u64, u64, u8), StateError>),
@@ -179,6 +182,7 @@ fn is_answered<N: Name, W: CloseOnDrop, R: Threads + Wait + Abort + Sync>(
             desk.edit_by(rt, seat, &Append { input, count }) == answer
         }
         Call::Told(_, range, at, text) => is_told(rt, alloc, desk, seat, range, (at, text)),
+        Call::Part(_, from, at, text) => is_part(rt, alloc, desk, seat, from, (at, text)),
         Call::Exported(_, (from, to), workers, at, played) => {
             let bytes = to.saturating_sub(from).saturating_mul(100_815);
             let told = export_by(rt, alloc, desk, seat, (from, to), workers);
@@ -213,6 +217,7 @@ fn caller(call: Call) -> u32 {
         | Call::Over(seat, ..)
         | Call::Appended(seat, ..)
         | Call::Told(seat, ..)
+        | Call::Part(seat, ..)
         | Call::Began(seat, ..)
         | Call::Brought(seat, ..)
         | Call::Keeps(seat, _) => seat,

@@ -31,6 +31,8 @@ mod lock_tests;
 #[cfg(test)]
 mod model;
 #[cfg(test)]
+mod part_tests;
+#[cfg(test)]
 mod pictures;
 #[cfg(test)]
 mod plan_tests;

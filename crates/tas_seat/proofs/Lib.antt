@@ -18,3 +18,4 @@ pub mod DraftLemmas
 pub mod DraftEditLemmas
 pub mod DraftWorkLemmas
 pub mod StrokeLemmas
+pub mod PartLemmas

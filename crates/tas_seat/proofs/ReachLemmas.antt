@@ -19,7 +19,7 @@ use Rattle.tas_movie.specs.declared.edit.Edit.{Edit}
 use Rattle.tas_movie.specs.declared.edit.Edit.TheVariants.{Load, Insert, Replace, Delete}
 use Rattle.tas_movie.specs.declared.edit.EditRefusal.{EditRefusal}
 use Rattle.tas_movie.specs.declared.edit.EditRefusal.TheVariants.{Long}
-use Rattle.tas_movie.specs.Edit.{refusal, edited, edited_unless, spliced, place_refusal, length_refusal}
+use Rattle.tas_movie.specs.Edit.{IsAllowed, refusal, edited, edited_unless, spliced, place_refusal, length_refusal}
 use Rattle.tas_movie.proofs.EditLemmas.{place_within, insert_within, unrefused}
 use Rattle.tas_green.specs.Run.{state_after, picture_of}
 use Rattle.tas_published.specs.declared.entry.Entry.{Entry}
@@ -32,6 +32,7 @@ use Rattle.tas_session.specs.declared.replies.Reached.{Reached}
 use Rattle.tas_session.specs.Answers.{answer_shot, shown_of}
 use Rattle.tas_published.specs.History.{movie_from, movie_of}
 use Rattle.tas_published.specs.Errors.{shot_error}
+use Rattle.tas_desk.specs.Parts.{inputs_of}
 use Rattle.tas_engines.specs.Lag.{lag_lines_between, LagFramesIgnoreInput}
 use Rattle.tas_engines.specs.declared.fault.RunFault.{RunFault}
 use Rattle.tas_engines.specs.declared.fault.RunFault.TheVariants.{NoEntry, Memory}
@@ -101,6 +102,15 @@ few_changed movie (Insert at inputs) few None is =
     omega (arith, spliced_length at 0 inputs movie.inputs (let lower : at + 0 ≤ length movie.inputs = omega (arith, place) in lower), long)
 few_changed movie (Replace at inputs) few None is = let place = place_within (length movie.inputs) at (at + length inputs) is in omega (arith, spliced_length at (length inputs) inputs movie.inputs place, few)
 few_changed movie (Delete at count) few None is = let place = place_within (length movie.inputs) at (at + count) is in omega (arith, spliced_length at count [] movie.inputs place, few)
+
+-- nor does an edit that it allows put in more
+pub few_put_in : {A : Type 0} (movie : MovieContent) (edit : Edit A) → length movie.inputs ≤ most_inputs → IsAllowed movie edit → inputs_of edit ≤ most_inputs
+few_put_in movie (Load cart) few is = omega arith
+few_put_in movie (Insert at inputs) few is =
+    let long = length_within (length movie.inputs) (length movie.inputs + length inputs) (unrefused (place_refusal (length movie.inputs) at at) (length_refusal (length movie.inputs) (length movie.inputs + length inputs)) is).1 in
+    omega (arith, long)
+few_put_in movie (Replace at inputs) few is = let place = place_within (length movie.inputs) at (at + length inputs) is in omega (arith, place, few)
+few_put_in movie (Delete at count) few is = omega arith
 
 few_from : {A : Type 0} (movie : MovieContent) (history : List (Entry A)) → length movie.inputs ≤ most_inputs → length (movie_from movie history).inputs ≤ most_inputs
 unfolding movie_from

@@ -1,17 +1,19 @@
 //! Laws of a seat's conversation: what the history that its desk leaves shows of it.
 
-ghost use Rattle.std.specs.Prelude.{◌≡◌, ◌≤◌, ◌++◌, ◌∷◌, ℕ, List, length, Option, Some, None, Result, Err};
+ghost use Rattle.std.specs.Prelude.{◌≡◌, ◌≢◌, ◌+◌, ◌<◌, ◌≤◌, ◌++◌, ◌∷◌, [], ℕ, List, length, drop, Option, Some, None, Result, Err};
 ghost use mathlib.Core.List.{IsPrefix};
+ghost use Rattle.tas_movie.specs.Content.{MovieContent};
 ghost use Rattle.tas_movie.specs.declared.edit.Edit.{Edit};
 ghost use Rattle.tas_published.specs.declared.entry.Entry.{Entry};
-ghost use Rattle.tas_published.specs.History.{entries_of, movie_of};
+ghost use Rattle.tas_published.specs.History.{entries_of, movie_of, IsLegal};
+ghost use Rattle.tas_desk.specs.Parts.{one_part};
 ghost use Rattle.tas_desk.specs.Seats.{SeatContent, IsSettled};
 ghost use Rattle.tas_engines.specs.declared.fault.ToolFault.{ToolFault};
 ghost use Rattle.tas_engines.specs.declared.fault.ToolFault.TheVariants.{Run};
 ghost use Rattle.tas_engines.specs.declared.fault.RunFault.TheVariants.{Foreign};
 ghost use Rattle.tas_language.specs.declared.request.Request.TheVariants.{Commit};
-ghost use Rattle.tas_seat.specs.Seats.{IsSeatAfter};
-ghost use Rattle.tas_seat.specs.Drafts.{DraftContent};
+ghost use Rattle.tas_seat.specs.Seats.{IsSeatAfter, entries_from};
+ghost use Rattle.tas_seat.specs.Drafts.{DraftContent, IsStroke};
 ghost use Rattle.tas_seat.specs.Conversations.{TalkingSeat, talking};
 ghost use Rattle.tas_seat.specs.Talk.{Exchange, IsExchange, AreExchanges, IsTalk, all_edits};
 ghost use Rattle.tas_seat.specs.Histories.{IsInHistory};
@@ -71,4 +73,22 @@ pub fn commits_make_drafts<A: Allocator>()
         → AreExchanges (talking start None) exchanges seat → IsExchange seat x
         → seat.draft ≡ Some draft → x.heard ≡ Some Commit → x.next.draft ≡ None
         → movie_of x.next.seat.front ≡ draft.movie }
+{}
+
+/// An answer to `history` that begins before the two edits of a commit, or with the first of them, has both or neither. And it has an edit
+/// where the history has one, so who asks on from answer to answer comes to its end.
+pub fn parts_have_whole_commits<A: Allocator>()
+    // The part of a history from a place on has both edits of a commit that come there or later, or neither; and it is
+    // empty only where the history has no entry there. The history is a beginning of the one that a closed desk leaves,
+    // which is legal.
+    // Refused: none, it has no code to edit.
+    ensures whole { (base new : MovieContent) (first next : Edit A) (seat serial : ℕ)
+        (before after : List (Entry A)) (from : ℕ) → IsStroke base new (first ∷ next ∷ [])
+        → from ≤ length before
+        → from + length (one_part (drop from
+            (before ++ (entries_from seat serial (first ∷ next ∷ []) ++ after))))
+        ≢ length before + 1 }
+    ensures goes_on { (history front : List (Entry A)) (from : ℕ) → IsLegal history
+        → IsPrefix front history → from < length front
+        → 0 < length (one_part (drop from front)) }
 {}

@@ -30,6 +30,8 @@ pub use conversation::answer_talk;
 pub use door::Door;
 pub use draft::Draft;
 pub use draft_stroke::stroke_between;
-pub use laws::{answers_are_at_beginnings, commits_make_drafts, talks_are_in_history};
+pub use laws::{
+    answers_are_at_beginnings, commits_make_drafts, parts_have_whole_commits, talks_are_in_history,
+};
 pub use requests::answer_request;
 pub use talking::converse;

@@ -8,6 +8,8 @@ mod draft_tests;
 #[cfg(test)]
 mod long_look_tests;
 #[cfg(test)]
+mod part_tests;
+#[cfg(test)]
 mod talk_turn_tests;
 #[cfg(test)]
 mod turn_tests;
