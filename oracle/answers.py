@@ -36,6 +36,31 @@ Said = namedtuple("Said", "kind numbers frame")
 BLANK = Movie(bytes(4096), [])
 
 
+# ---- answers to `history`
+
+def frames_in(lines):
+    """How many frames an entry's lines put in."""
+    return sum(int(line.split(" ")[2]) for line in lines if line.startswith(("insert ", "replace ")))
+
+
+def may_be_one(entry, following):
+    """Whether two entries, each a seat and its lines, may be the two edits of one commit."""
+    (seat, lines), (other, others) = entry, following
+    gone, come = lines[0].split(" "), others[0].split(" ")
+    return seat == other and [gone[0], come[0]] == ["delete", "insert"] and gone[1] == come[1]
+
+
+def told_at_once(entries):
+    """How many of some entries, each a seat and its lines, one answer has."""
+    count, frames = 0, 0
+    for _, lines in entries[:TOLD_AT_ONCE]:
+        frames += frames_in(lines)
+        if frames > hands.MOST:
+            break
+        count += 1
+    return count - (0 < count < len(entries) and may_be_one(entries[count - 1], entries[count]))
+
+
 # ---- lines
 
 def understood(line):
@@ -194,10 +219,6 @@ class Answers:
         self.expect(number, line, head, "movie %d %d" % (at, len(text)))
         if body != text:
             self.differ(number, line, head + "\n" + str(body), "the movie at %d edits:\n%s" % (at, text))
-
-    def of_history(self, number, line, head, body, at, first):
-        count = min(TOLD_AT_ONCE, max(0, at - first))
-        self.expect(number, line, head, "history %d %d %d %d" % (at, first, count, len(body)))
 
     def of_states(self, number, line, head, _body, at):
         words = head.split(" ")

@@ -6,7 +6,7 @@ Written from docs/FORMATS.md, "Conversation", "History" and "Several conversatio
 from collections import Counter
 
 import drafts
-from answers import EDITS, Answers, Movie, at_of, hands, made, understood
+from answers import EDITS, TOLD_AT_ONCE, Answers, Movie, at_of, hands, made, told_at_once, understood
 
 UNHEARD = "edits whose answer nobody heard"
 
@@ -212,6 +212,14 @@ class History(Answers):
         self.differ(number, "", "entry %d: %r" % (at - 1, self.told[at - 1]), "no foreign edit: this is no line that was sent")
 
     # -- looks
+
+    def of_history(self, number, line, head, body, at, first):
+        """As many of the entries that were told as one answer has. The first client was told all of them."""
+        entries = [self.told.get(entry) for entry in range(first, min(at, first + TOLD_AT_ONCE + 1))]
+        if None in entries:
+            self.differ(number, line, head, "entries %d to %d, which nobody was told" % (first, first + len(entries) - 1))
+            return
+        self.expect(number, line, head, "history %d %d %d %d" % (at, first, told_at_once(entries), len(body)))
 
     def compare_looks(self, number, log, place, at):
         """Compares a client's answers up to the first one at a later number."""

@@ -193,7 +193,8 @@ class Holder:
         return "share %d %d" % (self.main.at, self.main.kept.share(self.main.movie))
 
     def of_history(self, _side, first):
-        told = self.edits[first:first + answers.TOLD_AT_ONCE]
+        entries = [(0, lines) for lines in self.edits[first:first + answers.TOLD_AT_ONCE + 1]]
+        told = self.edits[first:first + answers.told_at_once(entries)]
         text = "".join("%d 0 %s\n" % (number, line) for number, lines in enumerate(told, first) for line in lines)
         return "history %d %d %d %d\n%s" % (self.main.at, first, len(told), len(text), text)
 
