@@ -1,5 +1,5 @@
 -- Parts of the history: how many entries they have.
-use Rattle.std.proofs.Common.{◌≡◌, ℕ, zero, suc, ◌+◌, ◌-◌, ◌<◌, ◌≤◌, min, Bool, true, false, not, ◌&&◌, List, length, get_or, take, Option, Some, None, refl, sym, ap, subst, ◌∙◌, inl, inr, arith}
+use Rattle.std.proofs.Common.{◌≡◌, ℕ, zero, suc, ◌+◌, ◌-◌, ◌<◌, ◌≤◌, min, true, false, not, ◌&&◌, List, length, get_or, take, Option, Some, None, refl, sym, ap, subst, ◌∙◌, inl, inr, arith}
 use Rattle.std.specs.Prelude.{nat_le, slice_get, ◌==◌}
 use Rattle.std.proofs.lemmas.Bool.{false≢true, true≢false, and_parts, and_from, and_left, and_right, le-leb, leb-true, lt-leb, not-true, not_from_true, not_from_false, cases_Bool, cases_lt, cond-true, cond-false}
 use Rattle.std.proofs.lemmas.List.{take-take}
@@ -77,7 +77,7 @@ some_before entries (suc n) is = omega arith
 pub not_before : {A : Type 0} (entries : List (Entry A)) (n : ℕ) → is_between entries n ≡ true → is_between entries (n - 1) ≡ false
 unfolding is_between
 not_before entries zero is = absurd (false≢true is)
-not_before entries (suc zero) is = refl
+not_before {A} entries (suc zero) is = let none : suc zero - 1 ≡ zero = omega arith in ap (λ (m : ℕ). is_between entries m) none
 not_before {A} entries (suc (suc n)) is =
     let one : suc (suc n) - 1 ≡ suc n = omega arith in
     ap (λ (m : ℕ). is_between entries m) one ∙ both_apart (slice_get entries n) (slice_get entries (suc n)) (slice_get entries (suc (suc n))) is
@@ -135,7 +135,7 @@ cannot_between entries n between =
 -- it is the greatest number at which a part can end
 last_end_is : {A : Type 0} (entries : List (Entry A)) (n k : ℕ) → k ≤ n → (0 < k → can_end entries k ≡ true) → ((m : ℕ) → k < m → m ≤ n → can_end entries m ≡ false) → last_end entries n ≡ k
 unfolding last_end
-last_end_is entries zero k le can none = omega (arith, le)
+last_end_is entries zero k le can none = let same : k ≡ 0 = omega (arith, le) in sym same
 last_end_is {A} entries (suc n) k le can none = elim (cases_lt k (suc n)) [
   | inl less ↦ cond-false (can_end entries (suc n)) (suc n) (last_end entries n) (none (suc n) less (omega arith)) ∙ last_end_is entries n k (omega (arith, less)) can (λ m more few. none m more (omega (arith, few)))
   | inr most ↦
@@ -146,7 +146,7 @@ last_end_is {A} entries (suc n) k le can none = elim (cases_lt k (suc n)) [
 -- a part can end there, unless it is 0
 pub ends_where_it_can : {A : Type 0} (entries : List (Entry A)) (n : ℕ) → 0 < last_end entries n → can_end entries (last_end entries n) ≡ true
 unfolding last_end
-ends_where_it_can entries zero some = absurd (omega (arith, some))
+ends_where_it_can entries zero some = let never : 0 < 0 = some in absurd (omega (arith, never))
 ends_where_it_can {A} entries (suc n) some = elim (cases_Bool (can_end entries (suc n))) [
   | inl can ↦ subst (λ (m : ℕ). can_end entries m ≡ true) (sym (cond-true (can_end entries (suc n)) (suc n) (last_end entries n) can)) can
   | inr never ↦

@@ -1,5 +1,5 @@
 -- A part of a history has both edits of a commit or neither, and some entry where there is one.
-use Rattle.std.proofs.Common.{◌≡◌, ℕ, zero, suc, ◌+◌, ◌-◌, ◌<◌, ◌≤◌, ◌==◌, Bool, true, false, List, [], ◌∷◌, ◌++◌, length, take, drop, get_or, Some, refl, sym, ap, subst, ◌∙◌, inl, inr, arith, append_assoc, length-drop, take-append-drop, length-take-le}
+use Rattle.std.proofs.Common.{◌≡◌, ℕ, zero, suc, ◌+◌, ◌-◌, ◌<◌, ◌≤◌, ◌==◌, Bool, true, false, List, [], ◌∷◌, ◌++◌, length, take, drop, Option, Some, refl, sym, ap, subst, ◌∙◌, inl, inr, arith, append_assoc, length-drop, take-append-drop, length-take-le}
 use Rattle.std.specs.Prelude.{slice_get, if◌then◌else◌}
 use Rattle.std.proofs.lemmas.Bool.{false≢true, true≢false, eq-eqb, and_from, and_parts, cases_Bool, cases_lt, false_from_ne_true}
 use Rattle.std.proofs.lemmas.List.{drop-append-le}
@@ -26,13 +26,13 @@ two_exchange at [] (new ∷ news) first next is = absurd (cc is)
 two_exchange at (old ∷ olds) [] first next is = absurd (cc is)
 two_exchange {A} at (old ∷ olds) (new ∷ news) first next is = go (length olds == length news) is
   where
-    go : (same : Bool) → (if same then Replace at (new ∷ news) ∷ [] else Delete at (length (old ∷ olds)) ∷ Insert at (new ∷ news) ∷ []) ≡ first ∷ next ∷ [] → is_exchange first next ≡ true
+    go : (same : Bool) → ◌≡◌ {A = List (Edit A)} (if same then Replace at (new ∷ news) ∷ [] else Delete at (length (old ∷ olds)) ∷ Insert at (new ∷ news) ∷ []) (first ∷ next ∷ []) → is_exchange first next ≡ true
     go true one = absurd (cc one)
     go false two =
-      let gone : ◌≡◌ {A = Edit A} (Delete at (length (old ∷ olds))) first = cc two in
-      let come : ◌≡◌ {A = Edit A} (Insert at (new ∷ news)) next = cc two in
-      subst (λ (e : Edit A). is_exchange e next ≡ true) gone
-      (subst (λ (e : Edit A). is_exchange (Delete at (length (old ∷ olds))) e ≡ true) come (eq-eqb at at refl))
+        let gone : ◌≡◌ {A = Edit A} (Delete at (length (old ∷ olds))) first = cc two in
+        let come : ◌≡◌ {A = Edit A} (Insert at (new ∷ news)) next = cc two in
+        subst (λ (e : Edit A). is_exchange e next ≡ true) gone
+        (subst (λ (e : Edit A). is_exchange (Delete at (length (old ∷ olds))) e ≡ true) come (eq-eqb at at refl))
 
 pub stroke_exchange : {A : Type 0} (base new : MovieContent) (first next : Edit A) → IsStroke base new (first ∷ next ∷ []) → is_exchange first next ≡ true
 stroke_exchange base new first next is =
@@ -55,7 +55,9 @@ get_next (z ∷ before) after x y (suc n) is = get_next before after x y n (omeg
 between_two : {A : Type 0} (before after : List (Entry A)) (x y : Entry A) (n : ℕ) → length before ≡ n → may_be_one x y ≡ true → is_between (before ++ x ∷ y ∷ after) (suc n) ≡ true
 unfolding is_between
 between_two {A} before after x y n is pair =
-    (λ i. may_both_be_one (get_here before (y ∷ after) x n is i) (get_next before after x y n is i)) ∙ pair
+    ap (λ (o : Option (Entry A)). may_both_be_one o (slice_get (before ++ x ∷ y ∷ after) (suc n))) (get_here before (y ∷ after) x n is)
+    ∙ ap (λ (o : Option (Entry A)). may_both_be_one (Some x) o) (get_next before after x y n is)
+    ∙ pair
 
 -- ---- how long a part is
 

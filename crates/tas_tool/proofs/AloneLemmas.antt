@@ -216,8 +216,8 @@ same_exchange (Delete at count) next = same_insertion next at
 
 same_asked : (A : Type 0) → AsksAlike (λ (e : Entry A). retold (reported e))
 same_asked A = record {
-  inputs = λ (entry : Entry A). same_inputs entry.edit;
-  pairs = λ (entry next : Entry A). ap (λ (b : Bool). (entry.seat == next.seat) && b) (same_exchange entry.edit next.edit);
+  inputs = λ entry. same_inputs entry.edit;
+  pairs = λ entry next. ap (λ (b : Bool). (entry.seat == next.seat) && b) (same_exchange entry.edit next.edit);
 }
 
 all_retold : {A : Type 0} (entries : List (Entry A)) → map retold (all_reported entries) ≡ map (λ (e : Entry A). retold (reported e)) entries
