@@ -124,7 +124,7 @@ impl<N: Name, W: CloseOnDrop, A: Allocator + Copy> Desk<N, W, A> {
         // place; and how many entries the front has; the seat's zone stays.
         // Refused: part_ends_between_the_edits_of_a_commit, part_is_counted_in_entries_alone,
         // part_has_a_hundred_entries_more, part_puts_in_two_movies_inputs, part_has_255_entries_at_most*,
-        // edits_of_two_seats_may_be_one_commit*, insertion_before_the_deletion_may_be_its_commit*,
+        // edits_of_two_seats_are_a_commits*, insertion_at_an_earlier_place_is_a_commits*,
         // replaced_inputs_are_not_counted*.
         ensures seat { KeepsZone seat.old seat.new }
         ensures at { IfOk result (λ history. history.at ≡ length seat.new.front) }

@@ -82,10 +82,7 @@ fn check_answers<N: Name, W: CloseOnDrop, R: Wait + Abort>(
     }
     for row in ANSWERS.iter() {
         let request = Request::History { from: row.0 };
-        let found = expect_ok(
-            rt,
-            answer_talk(rt, alloc, desk, seat, &mut draft, request),
-        );
+        let found = expect_ok(rt, answer_talk(rt, alloc, desk, seat, &mut draft, request));
         let wanted = answer(rt, alloc, *row);
         check_that(
             rt,
