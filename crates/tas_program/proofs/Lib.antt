@@ -1,5 +1,6 @@
 pub mod DoorEndLemmas
 pub mod FileWordLemmas
+pub mod NamingLemmas
 pub mod NotedLemmas
 pub mod PairLemmas
 pub mod ProgramLemmas

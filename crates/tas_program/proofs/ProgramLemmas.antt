@@ -17,7 +17,7 @@ use Rattle.tas_words.specs.declared.task.Task.{Task}
 use Rattle.tas_words.specs.Invocations.{AreGiven, IsInvocation, IsNoTask}
 use Rattle.tas_program.specs.Program.{IsAskedBy, end_status, OneFileRun, TwoFilesRun, FilesRun, EndsOver, OverOne, OverTwo, IsRunOfFiles, IsSaveRun, IsTaskRun, RunsAfter, TaskEnds, desk_of, talk_of}
 use Rattle.tas_program.specs.declared.status.TaskFault.{TaskFault}
-use Rattle.tas_program.specs.declared.status.TaskFault.TheVariants.{Word, Tool, Search as NotSearched, Recover as NotRecovered, Image as NotKept, Verify as NotVerified, NoCarts, NotAll, Report, NoReport, UnsyncedReport, NoJournal, Journal as NotNoted, SeatJournal, Save as NotSaved}
+use Rattle.tas_program.specs.declared.status.TaskFault.TheVariants.{Word, Tool, Unread, NotMovie, Search as NotSearched, Recover as NotRecovered, Image as NotKept, Verify as NotVerified, NoCarts, NotAll, Report, NoReport, UnsyncedReport, NoJournal, Journal as NotNoted, SeatJournal, Save as NotSaved}
 use Rattle.tas_program.specs.declared.file_words.Permit.{Permit}
 use Rattle.tas_program.specs.declared.file_words.WordFault.{WordFault}
 use Rattle.tas_program.specs.FileWords.{WordsEnd, first_fault}
@@ -43,6 +43,8 @@ pub task_ends : (steps : FileSteps) (files : FileBytes) (chosen : Task) (old new
 task_ends steps files chosen old new (Ok u) ran = ran
 task_ends steps files chosen old new (Err (Word fault)) ran = (fault, ran)
 task_ends steps files chosen old new (Err (Tool fault)) ran = (Tool fault, tt, ran)
+task_ends steps files chosen old new (Err (Unread role fault)) ran = (Unread role fault, tt, ran)
+task_ends steps files chosen old new (Err (NotMovie role error)) ran = (NotMovie role error, tt, ran)
 task_ends steps files chosen old new (Err (NotSearched e)) ran = (NotSearched e, tt, ran)
 task_ends steps files chosen old new (Err (NotRecovered fault)) ran = (NotRecovered fault, tt, ran)
 task_ends steps files chosen old new (Err (NotKept fault)) ran = (NotKept fault, tt, ran)

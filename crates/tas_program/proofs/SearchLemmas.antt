@@ -1,9 +1,17 @@
 -- Searches and recoveries, and the ends of tasks that are one.
-use Rattle.std.proofs.Common.{◌≡◌, ◌⊎◌, ℕ, List, Bool, Option, None, Some, Result, Ok, Err, inl, inr, refl, sym, ap, subst}
+use Rattle.std.proofs.Common.{◌≡◌, ◌⊎◌, ℕ, max, List, Bool, [], ◌∷◌, Option, None, Some, Result, Ok, Err, inl, inr, refl, sym, ap, subst}
 use Rattle.std.specs.Borrow.{Bor}
 use Rattle.std.specs.Io.KnownBytes.{Appends}
 use Rattle.tas_engines.specs.declared.fault.RunFault.{RunFault}
 use Rattle.tas_engines.specs.Output.{StopsWriting}
+use Rattle.tas_engines.specs.Commands.{OfTwo, OfThree, OfFour}
+use Rattle.tas_engines.specs.Comparing.{IsCompareAnswer}
+use Rattle.tas_engines.specs.Cutting.{IsCutAnswer}
+use Rattle.tas_engines.specs.Diffing.{IsDiffAnswer}
+use Rattle.tas_engines.specs.Digests.{IsDigestAnswer}
+use Rattle.tas_engines.specs.Editing.{IsEditAnswer, IsEditWithAnswer}
+use Rattle.tas_engines.specs.Lag.{IsLagAnswer}
+use Rattle.tas_engines.specs.Ram.{IsRamAnswer}
 use Rattle.tas_engines.specs.declared.fault.ReadFault.TheVariants.{Failed, Memory}
 use Rattle.tas_engines.specs.declared.fault.ToolFault.{ToolFault}
 use Rattle.tas_engines.specs.declared.fault.ToolFault.TheVariants.{Read}
@@ -13,6 +21,7 @@ use Rattle.tas_search.specs.Logs.{LogBytes, Logged, log_bytes}
 use Rattle.tas_search.specs.SearchRun.{IsSearchRunOn}
 use Rattle.tas_words.specs.declared.task.SearchWords.{SearchWords}
 use Rattle.tas_words.specs.declared.task.Task.{Task}
+use Rattle.tas_words.specs.declared.task.Task.TheVariants.{Trace, Check, Migrate, New, Recover, Search, Verify, Shot, Film, Export, Ram, Digest, Compare, Lag, Edit, Cut, Diff, Script, Talk, Desk}
 use Rattle.tas_program.specs.declared.saving.SaveFault.{SaveFault}
 use Rattle.tas_program.specs.declared.status.TaskFault.{TaskFault}
 use Rattle.tas_program.specs.declared.status.TaskFault.TheVariants.{Tool, Image as NotKept, Report, NoReport, Save as NotSaved}
@@ -26,7 +35,9 @@ use Rattle.tas_journal.specs.RecoveryRun.{IsRecoveryRun}
 use Rattle.std.specs.Global.{Global as GlobalType}
 use Rattle.tas_program.specs.Reporting.{ReportedEnds, reported_of}
 use Rattle.tas_program.specs.Files.{FileBytes}
-use Rattle.tas_program.specs.Program.{DeskWordsEnd, DoesTask, EngineEnds, LeavesWords, desk_of, talk_of, tool_end}
+use Rattle.tas_program.specs.Program.{DeskWordsEnd, DoesTask, EndsPlain, EngineEnds, LeavesWords, desk_of, talk_of, tool_end}
+use Rattle.tas_program.specs.declared.roles.Roles.TheVariants.{CartMovie, CartOldMovie, CartScriptMovie, CartScriptOtherMovie}
+use Rattle.tas_program.proofs.NamingLemmas.{unsaved_named}
 use Rattle.tas_program.proofs.NotedLemmas.{no_desk_fault, no_talk_fault}
 use Rattle.tas_program.proofs.VerifyLemmas.{no_verify_fault}
 use Rattle.tas_movie.specs.Content.{MovieContent}
@@ -86,9 +97,9 @@ pub ends_desk : (steps : FileSteps) (files : FileBytes) (chosen : Task) (words :
     → DeskWordsEnd steps files words old new end → EngineEnds steps files (reported_of chosen) (talk_of chosen) (desk_of chosen) chosen old new end
 ends_desk steps files chosen words old new end is talk desk ends = rw (is, talk, desk) ends
 
-pub ends_other : (steps : FileSteps) (files : FileBytes) (chosen : Task) (old new : StreamBytes) (done : Result (Unit {0}) ToolFault) (end : Result (Unit {0}) TaskFault) → reported_of chosen ≡ None → talk_of chosen ≡ None → desk_of chosen ≡ None → end ≡ tool_end done
-    → DoesTask files chosen old new done → EngineEnds steps files (reported_of chosen) (talk_of chosen) (desk_of chosen) chosen old new end
-ends_other steps files chosen old new done end is talk desk e does = rw (is, talk, desk) (done, e, does)
+pub ends_other : (steps : FileSteps) (files : FileBytes) (chosen : Task) (old new : StreamBytes) (end : Result (Unit {0}) TaskFault) → reported_of chosen ≡ None → talk_of chosen ≡ None → desk_of chosen ≡ None
+    → DoesTask files chosen old new end → EngineEnds steps files (reported_of chosen) (talk_of chosen) (desk_of chosen) chosen old new end
+ends_other steps files chosen old new end is talk desk does = rw (is, talk, desk) does
 
 -- a report ends with no fault of a file that was to be replaced, where what is reported doesn't
 not_reported : (done : Result (List ℕ) TaskFault) (fault : SaveFault) (told told' : Option (List ℕ)) → (done ≡ Err (NotSaved fault) → ⊥) → Reports done told told' (Err (NotSaved fault)) → ⊥
@@ -140,11 +151,42 @@ no_kept_fault steps (Some name) held' (Ok u) fault none (inl (is, kept)) = cc
 no_kept_fault steps (Some name) held' (Ok u) fault none (inr is) = cc
 no_kept_fault steps (Some name) held' (Err other) fault none is = none (sym is)
 
+-- nor does a task that reports nothing and holds no conversation
+no_plain_fault : (ran : Result (Unit {0}) ToolFault → Type 0) (fault : SaveFault) → EndsPlain ran (Err (NotSaved fault)) → ⊥
+no_plain_fault ran fault ends = go ends.done ends.is
+  where
+    go : (done : Result (Unit {0}) ToolFault) → ◌≡◌ {A = Result (Unit {0}) TaskFault} (Err (NotSaved fault)) (tool_end done) → ⊥
+    go (Ok u) is = cc
+    go (Err other) is = cc
+
+no_task_fault : (files : FileBytes) (chosen : Task) (old new : StreamBytes) (fault : SaveFault) → DoesTask files chosen old new (Err (NotSaved fault)) → ⊥
+no_task_fault files (Trace n) old new fault does = no_plain_fault _ fault does
+no_task_fault files (Check cart) old new fault does = no_plain_fault _ fault does
+no_task_fault files (Migrate cart) old new fault does = no_plain_fault _ fault does
+no_task_fault files (New cart frames) old new fault does = no_plain_fault _ fault does
+no_task_fault files (Recover words) old new fault does = absurd does
+no_task_fault files (Search words) old new fault does = absurd does
+no_task_fault files (Verify words) old new fault does = absurd does
+no_task_fault files (Shot cart k) old new fault does = no_plain_fault _ fault does
+no_task_fault files (Film cart from to) old new fault does = no_plain_fault _ fault does
+no_task_fault files (Export cart from to workers) old new fault does = no_plain_fault _ fault does
+no_task_fault files (Ram cart from to) old new fault does = unsaved_named CartMovie (files.read cart.now ∷ []) (OfTwo (IsRamAnswer from to)) old new fault does
+no_task_fault files (Digest cart every) old new fault does = unsaved_named CartMovie (files.read cart.now ∷ []) (OfTwo (IsDigestAnswer (max every 1))) old new fault does
+no_task_fault files (Compare cart before) old new fault does = unsaved_named CartOldMovie (files.read cart.now ∷ files.read before.now ∷ []) (OfThree IsCompareAnswer) old new fault does
+no_task_fault files (Lag cart) old new fault does = unsaved_named CartMovie (files.read cart.now ∷ []) (OfTwo IsLagAnswer) old new fault does
+no_task_fault files (Edit cart script None) old new fault does = unsaved_named CartScriptMovie (files.read cart.now ∷ files.read script.now ∷ []) (OfThree IsEditAnswer) old new fault does
+no_task_fault files (Edit cart script (Some other)) old new fault does =
+    unsaved_named CartScriptOtherMovie (files.read cart.now ∷ files.read script.now ∷ files.read other.now ∷ []) (OfFour IsEditWithAnswer) old new fault does
+no_task_fault files (Cut cart from to) old new fault does = unsaved_named CartMovie (files.read cart.now ∷ []) (OfTwo (IsCutAnswer from to)) old new fault does
+no_task_fault files (Diff cart before) old new fault does = unsaved_named CartOldMovie (files.read cart.now ∷ files.read before.now ∷ []) (OfThree IsDiffAnswer) old new fault does
+no_task_fault files (Script start) old new fault does = no_plain_fault _ fault does
+no_task_fault files (Talk words) old new fault does = absurd does
+no_task_fault files (Desk words) old new fault does = absurd does
+
 -- no engine ends with a fault of a file that was to be replaced
 pub no_save_fault : (steps : FileSteps) (files : FileBytes) (asked : Option Reported) (talk : Option TalkWords) (desk : Option DeskWords) (chosen : Task) (old new : StreamBytes) (fault : SaveFault) → EngineEnds steps files asked talk desk chosen old new (Err (NotSaved fault)) → ⊥
 no_save_fault steps files None None (Some words) chosen old new fault ends = no_desk_fault steps files words words.journal old new fault ends
-no_save_fault steps files None None None chosen old new fault (Ok u, is, does) = cc
-no_save_fault steps files None None None chosen old new fault (Err other, is, does) = cc
+no_save_fault steps files None None None chosen old new fault does = no_task_fault files chosen old new fault does
 no_save_fault steps files None (Some words) desk chosen old new fault (left, leaves) = no_talk_fault steps files words.start words.journal left old new fault leaves
 no_save_fault steps files (Some (reported.Search words)) talk desk chosen old new fault (told, told', inl none) = other_end none.is
   where

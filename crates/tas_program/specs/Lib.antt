@@ -6,6 +6,8 @@ pub mod Recovering
 pub mod Verifying
 pub mod Reporting
 pub mod Noting
+pub mod Roles
+pub mod Naming
 pub mod Program
 pub mod Waiting
 pub mod Saving

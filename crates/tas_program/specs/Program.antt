@@ -41,13 +41,14 @@ use Rattle.tas_program.specs.declared.status.Status.TheVariants.{Done, Fault, Mi
 use Rattle.tas_words.specs.declared.task.Task.{Task}
 use Rattle.tas_words.specs.declared.task.Task.TheVariants.{Trace, Check, Migrate, New, Recover, Search, Verify, Shot, Film, Export, Ram, Digest, Compare, Lag, Edit, Cut, Diff, Script, Talk, Desk}
 use Rattle.std.specs.Borrow.{Bor}
+use Rattle.tas_words.specs.declared.task.MovieFiles.{MovieFiles}
 use Rattle.tas_words.specs.declared.task.TalkWords.{TalkWords}
 use Rattle.tas_words.specs.declared.task.Start.{Start}
 use Rattle.tas_words.specs.declared.task.Start.TheVariants.{Blank, Cart, Movie}
 use Rattle.clap.specs.Walk.{Text}
 use Rattle.tas_words.specs.Invocations.{AreGiven, IsInvocation}
 use Rattle.tas_program.specs.declared.status.TaskFault.{TaskFault}
-use Rattle.tas_program.specs.declared.status.TaskFault.TheVariants.{Word, Tool, Search as NotSearched, Recover as NotRecovered, Image as NotKept, Verify as NotVerified, NoCarts, NotAll, Report, NoReport, UnsyncedReport, NoJournal, Journal as NotNoted, SeatJournal, Save as NotSaved}
+use Rattle.tas_program.specs.declared.status.TaskFault.TheVariants.{Word, Tool, Unread, NotMovie, Search as NotSearched, Recover as NotRecovered, Image as NotKept, Verify as NotVerified, NoCarts, NotAll, Report, NoReport, UnsyncedReport, NoJournal, Journal as NotNoted, SeatJournal, Save as NotSaved}
 use Rattle.tas_program.specs.declared.file_words.WordFault.{WordFault}
 use Rattle.tas_program.specs.declared.file_words.SeenWord.{SeenWord}
 use Rattle.tas_program.specs.declared.saving.SaveFault.{SaveFault}
@@ -55,6 +56,8 @@ use Rattle.tas_program.specs.declared.folder.OrdinaryFile.{OrdinaryFile}
 use Rattle.tas_program.specs.FileWords.{AreSeen, IsSeen, fault_or, first_fault}
 use Rattle.tas_program.specs.OutputWords.{AreInputsSeen, output_fault}
 use Rattle.tas_program.specs.Saving.{Files, FileSteps, SaveEnds}
+use Rattle.tas_program.specs.declared.roles.Roles.TheVariants.{CartMovie, CartOldMovie, CartScriptMovie, CartScriptOtherMovie}
+use Rattle.tas_program.specs.Naming.{EndsNamed}
 use Rattle.tas_program.specs.Noting.{NotesDesk, NotesTalk}
 use Rattle.tas_program.specs.Files.{FileBytes, ends_of}
 use Rattle.tas_program.specs.Reporting.{ReportedEnds, reported_of}
@@ -76,6 +79,8 @@ abbrev pub end_status : Result (Unit {0}) TaskFault → Status
 end_status (Ok _) = Done
 end_status (Err (Word fault)) = Misuse
 end_status (Err (Tool fault)) = Fault
+end_status (Err (Unread role fault)) = Fault
+end_status (Err (NotMovie role error)) = Fault
 end_status (Err (NotSearched e)) = Fault
 end_status (Err (NotRecovered fault)) = Fault
 end_status (Err (NotKept fault)) = Fault
@@ -123,36 +128,47 @@ IsRunOfFiles answers files left input input' output output' end = (input' ≡ in
 abbrev pub IsDeskTask : List DoorEnds → TwoFilesRun
 IsDeskTask ends cart cart' movie movie' input input' output output' end = (input' ≡ input) × IsDeskRun GlobalType end_facts ends ends cart cart' movie movie' output output' end
 
--- a task that reports nothing, and holds no conversation, ends as the definition of its command says, over its files and the streams
-abbrev pub DoesTask : FileBytes → Task → StreamBytes → StreamBytes → Result (Unit {0}) ToolFault → Type 0
-DoesTask files (Trace n) old new end = EndsOver [] (IsRun (OfOne (λ image. IsTraceAnswer image n))) old new end
-DoesTask files (Check cart) old new end = EndsOver (files.read cart.now ∷ []) (IsRun (OfTwo IsCheckAnswer)) old new end
-DoesTask files (Migrate cart) old new end = EndsOver (files.read cart.now ∷ []) (IsRun (OfTwo IsMigrateAnswer)) old new end
-DoesTask files (New cart frames) old new end = EndsOver (files.read cart.now ∷ []) (IsRunOfFiles (OfOne (IsNewAnswer (min frames most_inputs)))) old new end
-DoesTask files (Recover words) old new end = ⊥
-DoesTask files (Search words) old new end = ⊥
-DoesTask files (Verify words) old new end = ⊥
-DoesTask files (Shot cart k) old new end = EndsOver (files.read cart.now ∷ []) (IsRun (OfTwo (IsShotAnswer k))) old new end
-DoesTask files (Film cart from to) old new end = EndsOver (files.read cart.now ∷ []) (OverOne (IsFilmRun from to)) old new end
-DoesTask files (Export cart from to workers) old new end = EndsOver (files.read cart.now ∷ []) (OverOne (IsMovieRun (IsExportAnswer from to))) old new end
-DoesTask files (Ram cart from to) old new end = EndsOver (files.read cart.now ∷ []) (IsRun (OfTwo (IsRamAnswer from to))) old new end
-DoesTask files (Digest cart every) old new end = EndsOver (files.read cart.now ∷ []) (IsRun (OfTwo (IsDigestAnswer (max every 1)))) old new end
-DoesTask files (Compare cart before) old new end = EndsOver (files.read cart.now ∷ files.read before.now ∷ []) (IsRun (OfThree IsCompareAnswer)) old new end
-DoesTask files (Lag cart) old new end = EndsOver (files.read cart.now ∷ []) (IsRun (OfTwo IsLagAnswer)) old new end
-DoesTask files (Edit cart script None) old new end = EndsOver (files.read cart.now ∷ files.read script.now ∷ []) (IsRun (OfThree IsEditAnswer)) old new end
-DoesTask files (Edit cart script (Some other)) old new end =
-    EndsOver (files.read cart.now ∷ files.read script.now ∷ files.read other.now ∷ []) (IsRun (OfFour IsEditWithAnswer)) old new end
-DoesTask files (Cut cart from to) old new end = EndsOver (files.read cart.now ∷ []) (IsRun (OfTwo (IsCutAnswer from to))) old new end
-DoesTask files (Diff cart before) old new end = EndsOver (files.read cart.now ∷ files.read before.now ∷ []) (IsRun (OfThree IsDiffAnswer)) old new end
-DoesTask files (Script None) old new end = IsScriptRun old.input new.input old.output new.output end
-DoesTask files (Script (Some start)) old new end = EndsOver (files.read start.cart.now ∷ files.read start.movie.now ∷ []) (OverTwo IsMovieScriptRun) old new end
-DoesTask files (Talk words) old new end = ⊥
-DoesTask files (Desk words) old new end = ⊥
+-- a script is run, on the movie of these files or on none
+abbrev pub RunsScript : FileBytes → Option MovieFiles → StreamBytes → StreamBytes → Result (Unit {0}) ToolFault → Type 0
+RunsScript files None old new end = IsScriptRun old.input new.input old.output new.output end
+RunsScript files (Some start) old new end = EndsOver (files.read start.cart.now ∷ files.read start.movie.now ∷ []) (OverTwo IsMovieScriptRun) old new end
 
 -- the end of a task whose engine was run
 abbrev pub tool_end : Result (Unit {0}) ToolFault → Result (Unit {0}) TaskFault
 tool_end (Ok u) = Ok u
 tool_end (Err fault) = Err (Tool fault)
+
+-- an engine ends so, and its fault stays as it is, which names no input
+pub record EndsPlain (ran : Result (Unit {0}) ToolFault → Type 0) (end : Result (Unit {0}) TaskFault) : Type 0 where
+  pub done : Result (Unit {0}) ToolFault
+  pub is : end ≡ tool_end done
+  pub ends : ran done
+
+-- a task that reports nothing, and holds no conversation, ends as the definition of its command says, over its files and the streams; its fault names its
+-- input where its row says by which names
+abbrev pub DoesTask : FileBytes → Task → StreamBytes → StreamBytes → Result (Unit {0}) TaskFault → Type 0
+DoesTask files (Trace n) old new end = EndsPlain (EndsOver [] (IsRun (OfOne (λ image. IsTraceAnswer image n))) old new) end
+DoesTask files (Check cart) old new end = EndsPlain (EndsOver (files.read cart.now ∷ []) (IsRun (OfTwo IsCheckAnswer)) old new) end
+DoesTask files (Migrate cart) old new end = EndsPlain (EndsOver (files.read cart.now ∷ []) (IsRun (OfTwo IsMigrateAnswer)) old new) end
+DoesTask files (New cart frames) old new end = EndsPlain (EndsOver (files.read cart.now ∷ []) (IsRunOfFiles (OfOne (IsNewAnswer (min frames most_inputs)))) old new) end
+DoesTask files (Recover words) old new end = ⊥
+DoesTask files (Search words) old new end = ⊥
+DoesTask files (Verify words) old new end = ⊥
+DoesTask files (Shot cart k) old new end = EndsPlain (EndsOver (files.read cart.now ∷ []) (IsRun (OfTwo (IsShotAnswer k))) old new) end
+DoesTask files (Film cart from to) old new end = EndsPlain (EndsOver (files.read cart.now ∷ []) (OverOne (IsFilmRun from to)) old new) end
+DoesTask files (Export cart from to workers) old new end = EndsPlain (EndsOver (files.read cart.now ∷ []) (OverOne (IsMovieRun (IsExportAnswer from to))) old new) end
+DoesTask files (Ram cart from to) old new end = EndsNamed CartMovie (files.read cart.now ∷ []) (OfTwo (IsRamAnswer from to)) old new end
+DoesTask files (Digest cart every) old new end = EndsNamed CartMovie (files.read cart.now ∷ []) (OfTwo (IsDigestAnswer (max every 1))) old new end
+DoesTask files (Compare cart before) old new end = EndsNamed CartOldMovie (files.read cart.now ∷ files.read before.now ∷ []) (OfThree IsCompareAnswer) old new end
+DoesTask files (Lag cart) old new end = EndsNamed CartMovie (files.read cart.now ∷ []) (OfTwo IsLagAnswer) old new end
+DoesTask files (Edit cart script None) old new end = EndsNamed CartScriptMovie (files.read cart.now ∷ files.read script.now ∷ []) (OfThree IsEditAnswer) old new end
+DoesTask files (Edit cart script (Some other)) old new end =
+    EndsNamed CartScriptOtherMovie (files.read cart.now ∷ files.read script.now ∷ files.read other.now ∷ []) (OfFour IsEditWithAnswer) old new end
+DoesTask files (Cut cart from to) old new end = EndsNamed CartMovie (files.read cart.now ∷ []) (OfTwo (IsCutAnswer from to)) old new end
+DoesTask files (Diff cart before) old new end = EndsNamed CartOldMovie (files.read cart.now ∷ files.read before.now ∷ []) (OfThree IsDiffAnswer) old new end
+DoesTask files (Script start) old new end = EndsPlain (RunsScript files start old new) end
+DoesTask files (Talk words) old new end = ⊥
+DoesTask files (Desk words) old new end = ⊥
 
 -- ---- conversations
 
@@ -208,7 +224,7 @@ abbrev pub EngineEnds : FileSteps → FileBytes → Option Reported → Option T
 EngineEnds steps files (Some words) talk desk chosen old new end = (told told' : Option (List ℕ)) × ReportedEnds steps files words old new told told' end
 EngineEnds steps files None (Some words) desk chosen old new end = (left : Option MovieContent) × LeavesWords steps files words left old new end
 EngineEnds steps files None None (Some words) chosen old new end = DeskWordsEnd steps files words old new end
-EngineEnds steps files None None None chosen old new end = (done : Result (Unit {0}) ToolFault) × (end ≡ tool_end done) × DoesTask files chosen old new done
+EngineEnds steps files None None None chosen old new end = DoesTask files chosen old new end
 
 -- what is done after the words were looked at: where one is at fault, the task ends with that, and no stream is read or written; else its
 -- engine is run
@@ -302,6 +318,8 @@ IsSaveRun steps read chosen name old new end =
 -- a fault of an engine
 abbrev pub IsEngineFault : TaskFault → Type 0
 IsEngineFault (Tool fault) = Unit {0}
+IsEngineFault (Unread role fault) = Unit {0}
+IsEngineFault (NotMovie role error) = Unit {0}
 IsEngineFault (NotSearched e) = Unit {0}
 IsEngineFault (NotRecovered fault) = Unit {0}
 IsEngineFault (NotKept fault) = Unit {0}

@@ -10,13 +10,15 @@ ghost use Rattle.std.specs.Io.KnownBytes.{Appends};
 ghost use Rattle.tas_engines.specs.declared.fault.RunFault.{RunFault};
 ghost use Rattle.tas_engines.specs.Commands.{IsRun};
 ghost use Rattle.tas_engines.specs.Output.{StopsWriting};
-ghost use Rattle.tas_words.specs.declared.task.Task.TheVariants.{Edit, Script};
+ghost use Rattle.tas_words.specs.declared.task.Task.TheVariants.{Edit};
 ghost use Rattle.tas_program.specs.Files.{files_by};
-ghost use Rattle.tas_program.specs.Program.{EndsOver, DoesTask, IsTaskRun, CarriesOut, ProgramEnds, desk_of, end_status, talk_of, tool_end};
+ghost use Rattle.tas_program.specs.Program.{EndsOver, DoesTask, IsTaskRun, CarriesOut, ProgramEnds, RunsScript, desk_of, end_status, talk_of, tool_end};
 ghost use Rattle.tas_program.specs.Reporting.{reported_of};
 
+use crate::naming::run_named;
+use crate::opened_runs::{run_export, run_film, run_new};
 use crate::searching::do_task;
-use crate::{Folder, Status, Streams, TaskFault, check_words, save_task, tell_waiting};
+use crate::{Folder, Roles, Status, Streams, TaskFault, check_words, save_task, tell_waiting};
 use std::alloc::{Allocator, Global};
 use std::env::Args;
 use std::io;
@@ -25,9 +27,7 @@ use std::sync::Wait;
 use std::thread::Threads;
 use std::time::Clock;
 use tas_engines::{Command, Whole, commands, run};
-use tas_tool::{
-    ReadFault, RunFault, ToolFault, export_run, film_run, movie_script_run, script_run, write_all,
-};
+use tas_tool::{ReadFault, RunFault, ToolFault, movie_script_run, script_run, write_all};
 use tas_words::{Invocation, MovieFiles, Task, collect_words, read_invocation};
 
 /// Opens a file of this name.
@@ -49,8 +49,8 @@ fn run_script<T: Wait, A: Allocator + Copy, F: Folder, R: Read, W: Write>(
     input: &mut R,
     output: &mut W,
 ) -> Result<(), ToolFault>
-    ensures { DoesTask (files_by (F.bytes_of folder.now) (F.held_by folder.now) (F.shown folder.now))
-        (Script start.entry)
+    ensures { RunsScript (files_by (F.bytes_of folder.now) (F.held_by folder.now) (F.shown folder.now))
+        start.entry
         (record { input = R.remaining input.old; output = W.contents output.old })
         (record { input = R.remaining input.new; output = W.contents output.new }) result }
 {
@@ -87,7 +87,7 @@ pub(crate) fn open_all<A: Allocator, F: Folder>(
 }
 
 /// Runs a command over the files of these names and the input.
-fn run_over<C: Command, A: Allocator + Copy, F: Folder, R: Read, W: Write>(
+pub(crate) fn run_over<C: Command, A: Allocator + Copy, F: Folder, R: Read, W: Write>(
     alloc: A,
     command: &C,
     names: &[&str],
@@ -113,7 +113,7 @@ fn run_edit<A: Allocator + Copy, F: Folder, R: Read, W: Write>(
     folder: &F,
     input: &mut R,
     output: &mut W,
-) -> Result<(), ToolFault>
+) -> Result<(), TaskFault>
     ensures { DoesTask (files_by (F.bytes_of folder.now) (F.held_by folder.now) (F.shown folder.now))
         (Edit cart.entry script.entry other.entry)
         (record { input = R.remaining input.old; output = W.contents output.old })
@@ -122,13 +122,22 @@ fn run_edit<A: Allocator + Copy, F: Folder, R: Read, W: Write>(
     match other {
         None => {
             let command = Whole(commands::Edit);
-            run_over(alloc, &command, &[cart, script], folder, input, output)
+            run_named(
+                alloc,
+                &command,
+                Roles::CartScriptMovie,
+                &[cart, script],
+                folder,
+                input,
+                output,
+            )
         }
         Some(other) => {
             let command = Whole(commands::EditWith);
-            run_over(
+            run_named(
                 alloc,
                 &command,
+                Roles::CartScriptOtherMovie,
                 &[cart, script, other],
                 folder,
                 input,
@@ -152,7 +161,7 @@ pub(crate) fn run_engine<
     folder: &F,
     input: &mut R,
     output: &mut W,
-) -> Result<(), ToolFault>
+) -> Result<(), TaskFault>
     requires reports { reported_of task ≡ None }
     requires talk { talk_of task ≡ None }
     requires desk { desk_of task ≡ None }
@@ -164,52 +173,54 @@ pub(crate) fn run_engine<
     match task {
         Task::Trace { instructions } => {
             let command = commands::Trace { instructions };
-            run_over(alloc, &command, &[], folder, input, output)
+            ended(run_over(alloc, &command, &[], folder, input, output))
         }
-        Task::Check { cart } => run_over(alloc, &commands::Check, &[cart], folder, input, output),
+        Task::Check { cart } => {
+            let command = commands::Check;
+            ended(run_over(alloc, &command, &[cart], folder, input, output))
+        }
         Task::Migrate { cart } => {
             let command = Whole(commands::Migrate);
-            run_over(alloc, &command, &[cart], folder, input, output)
+            ended(run_over(alloc, &command, &[cart], folder, input, output))
         }
-        Task::New { cart, frames } => {
-            let mut cart = open(folder, cart)?;
-            let command = Whole(commands::New { frames });
-            run_over(alloc, &command, &[], folder, &mut cart, output)
-        }
+        Task::New { cart, frames } => ended(run_new(alloc, cart, frames, folder, output)),
         Task::Recover(_) => unreachable!(),
         Task::Search(_) => unreachable!(),
         Task::Verify(_) => unreachable!(),
         Task::Shot { cart, frame } => {
             let command = commands::Shot { frame };
-            run_over(alloc, &command, &[cart], folder, input, output)
+            ended(run_over(alloc, &command, &[cart], folder, input, output))
         }
         Task::Film { cart, from, to } => {
-            film_run(alloc, from, to, &mut open(folder, cart)?, input, output)
+            ended(run_film(alloc, cart, from, to, folder, input, output))
         }
         Task::Export {
             cart,
             from,
             to,
             workers,
-        } => {
-            let mut cart = open(folder, cart)?;
-            export_run(rt, alloc, from, to, workers, &mut cart, input, output)
-        }
+        } => ended(run_export(
+            rt, alloc, cart, from, to, workers, folder, input, output,
+        )),
         Task::Ram { cart, from, to } => {
             let command = commands::Ram { from, to };
-            run_over(alloc, &command, &[cart], folder, input, output)
+            let roles = Roles::CartMovie;
+            run_named(alloc, &command, roles, &[cart], folder, input, output)
         }
         Task::Digest { cart, every } => {
             let command = Whole(commands::Digest { every });
-            run_over(alloc, &command, &[cart], folder, input, output)
+            let roles = Roles::CartMovie;
+            run_named(alloc, &command, roles, &[cart], folder, input, output)
         }
         Task::Compare { cart, old } => {
             let command = Whole(commands::Compare);
-            run_over(alloc, &command, &[cart, old], folder, input, output)
+            let roles = Roles::CartOldMovie;
+            run_named(alloc, &command, roles, &[cart, old], folder, input, output)
         }
         Task::Lag { cart } => {
             let command = Whole(commands::Lag);
-            run_over(alloc, &command, &[cart], folder, input, output)
+            let roles = Roles::CartMovie;
+            run_named(alloc, &command, roles, &[cart], folder, input, output)
         }
         Task::Edit {
             cart,
@@ -218,13 +229,15 @@ pub(crate) fn run_engine<
         } => run_edit(alloc, cart, script, other, folder, input, output),
         Task::Cut { cart, from, to } => {
             let command = Whole(commands::Cut { from, to });
-            run_over(alloc, &command, &[cart], folder, input, output)
+            let roles = Roles::CartMovie;
+            run_named(alloc, &command, roles, &[cart], folder, input, output)
         }
         Task::Diff { cart, old } => {
             let command = Whole(commands::Diff);
-            run_over(alloc, &command, &[cart, old], folder, input, output)
+            let roles = Roles::CartOldMovie;
+            run_named(alloc, &command, roles, &[cart, old], folder, input, output)
         }
-        Task::Script(start) => run_script(rt, alloc, start, folder, input, output),
+        Task::Script(start) => ended(run_script(rt, alloc, start, folder, input, output)),
         Task::Talk(_) => unreachable!(),
         Task::Desk(_) => unreachable!(),
     }
@@ -267,6 +280,9 @@ pub fn run_task<
     // movie_and_cartridge_of_a_script_are_swapped*, film_starts_at_its_end, ram_ends_before_its_last_line*,
     // digest_ignores_every*, new_movie_has_one_frame*, compare_is_answered_as_diff*, cut_ends_before_its_last_frame*,
     // script_and_second_movie_are_swapped*.
+    // A fault of `ram`, `digest`, `compare`, `lag`, `edit`, `cut` and `diff` names its input, as `named_run` says, by the names that the command
+    // has for its inputs; where one of their files can't be opened it has the name of one of them. That it is this one's, no clause says.
+    // Refused: other_movie_of_an_edit_has_no_name.
     // A desk's conversations are those of its pairs, in order: their bytes are those of the first file of each, and the
     // answers come after what the folder says that the second one's writer holds when it is opened (`held_by`): nothing,
     // where the file is empty. The system's folder says nothing, and writes from the first byte on. Nothing of standard
@@ -342,6 +358,8 @@ fn report<A: Allocator, E: Write>(alloc: A, errors: &mut E, end: Result<(), Task
             match fault {
                 TaskFault::Word(_) => Status::Misuse,
                 TaskFault::Tool(_) => Status::Fault,
+                TaskFault::Unread { .. } => Status::Fault,
+                TaskFault::NotMovie { .. } => Status::Fault,
                 TaskFault::Search(_) => Status::Fault,
                 TaskFault::Recover(_) => Status::Fault,
                 TaskFault::Image(_) => Status::Fault,

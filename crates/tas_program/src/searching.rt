@@ -18,7 +18,7 @@ ghost use Rattle.tas_search.specs.Logs.{log_bytes};
 use crate::desks::{desk_of, hold_desk};
 use crate::noted_talks::hold_words;
 use crate::recovering::run_recovery;
-use crate::running::{ended, open_all, run_engine};
+use crate::running::{open_all, run_engine};
 use crate::saved_talks::talk_of;
 use crate::verifying::run_verify;
 use crate::{Folder, Permit, TaskFault};
@@ -410,7 +410,7 @@ pub(crate) fn do_task<
             Some(words) => hold_words(rt, alloc, words, permit, folder, input, output).end,
             None => match desk_of(task) {
                 Some(words) => hold_desk(rt, global, words, permit, folder, output),
-                None => ended(run_engine(rt, alloc, task, folder, input, output)),
+                None => run_engine(rt, alloc, task, folder, input, output),
             },
         },
     }

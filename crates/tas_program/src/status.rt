@@ -3,12 +3,14 @@
 ghost use Rattle.std.specs.Prelude.{◌≡◌};
 ghost use Rattle.tas_program.specs.Program.{status_code};
 
-use crate::{SaveFault, WordFault};
+use crate::roles::not_movie_line;
+use crate::{Role, SaveFault, WordFault};
 use std::fmt;
 use std::fmt::{Display, Formatter, Write};
 use tas_journal::RecoveryFault;
+use tas_movie::TextError;
 use tas_search::SearchError;
-use tas_tool::{JournalFault, RunFault, ToolFault};
+use tas_tool::{JournalFault, ReadFault, RunFault, ToolFault};
 use tas_verify::VerifyFault;
 use thiserror::Error;
 
@@ -42,6 +44,23 @@ pub enum TaskFault {
     /// Its engine ended with a fault: the status is 1.
     #[error("{0}")]
     Tool(ToolFault),
+    /// This input can't be opened or wasn't read whole: the status is 1, and nothing is written. Not `Memory`, which is `Tool`'s.
+    #[error("fault: {role}: {fault}")]
+    Unread {
+        /// The input.
+        role: Role,
+        /// Why it wasn't read whole.
+        fault: ReadFault,
+    },
+    /// This input, which is read before the movie on standard input, is no text of a movie with the cartridge: the status is 1, and nothing
+    /// is written.
+    #[error(fmt = not_movie_line)]
+    NotMovie {
+        /// The input.
+        role: Role,
+        /// Its first line at fault.
+        error: TextError,
+    },
     /// It is a search, and has no answer: the status is 1.
     #[error("{0}")]
     Search(SearchError),

@@ -41,3 +41,9 @@ returns-in-NoReport g c = rw (c.in-Err.is, c.in-NoReport.is)
 
 pub returns-in-UnsyncedReport : goal.returns-in-UnsyncedReport
 returns-in-UnsyncedReport g c = rw (c.in-Err.is, c.in-UnsyncedReport.is)
+
+pub returns-in-Unread : goal.returns-in-Unread
+returns-in-Unread g c = rw (c.in-Err.is, c.in-Unread.is)
+
+pub returns-in-NotMovie : goal.returns-in-NotMovie
+returns-in-NotMovie g c = rw (c.in-Err.is, c.in-NotMovie.is)

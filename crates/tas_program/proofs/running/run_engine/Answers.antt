@@ -1,20 +1,20 @@
-use Rattle.std.proofs.Common.{◌≡◌, Some, None, min, refl, sym, ap, ◌∙◌}
-use Rattle.tas_movie.specs.Content.{most_inputs}
-use Rattle.tas_engines.specs.Commands.{OfOne}
-use Rattle.tas_engines.specs.Movies.{IsMovieRun}
-use Rattle.tas_engines.specs.Starting.{IsNewAnswer}
-use Rattle.tas_tool.specs.Films.{IsFilmRun}
-use Rattle.tas_tool.specs.Pixmaps.{IsExportAnswer}
+use Rattle.std.proofs.Common.{◌≡◌, Some, None, sym, ap, ◌∙◌}
 use Rattle.tas_program.specs.Program.{desk_of, talk_of}
 use Rattle.tas_program.specs.Reporting.{reported_of}
 use Rattle.tas_program.specs.declared.searching.Reported.TheVariants as reported
-use Rattle.tas_program.proofs.ProgramLemmas.{over_alone, over_one}
 use Rattle.tas_program.proofs.running.run_engine.Goals as goal
 
-pub returns-in_ok-cart-in-New : goal.returns-in_ok-cart-in-New
-returns-in_ok-cart-in-New g c =
-    rw c.in-New.is
-    (over_alone (OfOne (IsNewAnswer (min c.in-New.frames most_inputs))) (g.F.Folder.bytes_of c.args.folder.now c.in-New.cart.now) (g.F.File.Read.remaining c.in_ok-cart-in-New.cart) (g.F.File.Read.remaining c.run_over-in-New.new.input) (record { input = g.R.Read.remaining c.args.input.now; output = g.W.Write.contents c.args.output.now }) (record { input = g.R.Read.remaining c.args.input.now; output = g.W.Write.contents c.run_over-in-New.new.output }) c.run_over-in-New.result c.in_ok-cart-in-New.ensures.file refl c.run_over-in-New.ensures)
+pub returns-in-Trace : goal.returns-in-Trace
+returns-in-Trace g c = rw c.in-Trace.is (record { done = c.run_over.result; is = c.ended.ensures; ends = c.run_over.ensures })
+
+pub returns-in-Check : goal.returns-in-Check
+returns-in-Check g c = rw c.in-Check.is (record { done = c.run_over-in-Check.result; is = c.ended-in-Check.ensures; ends = c.run_over-in-Check.ensures })
+
+pub returns-in-Migrate : goal.returns-in-Migrate
+returns-in-Migrate g c = rw c.in-Migrate.is (record { done = c.run_over-in-Migrate.result; is = c.ended-in-Migrate.ensures; ends = c.run_over-in-Migrate.ensures })
+
+pub returns-in-New : goal.returns-in-New
+returns-in-New g c = rw c.in-New.is (record { done = c.run_new.result; is = c.ended-in-New.ensures; ends = c.run_new.ensures (g.R.Read.remaining c.args.input.now) })
 
 pub unreachable-requires : goal.unreachable-requires
 unreachable-requires g c =
@@ -31,35 +31,37 @@ unreachable-requires-in-Talk g c =
     let talk : Some c.in-Talk.field-0 ≡ None = sym (ap talk_of c.in-Talk.is) ∙ c.requires.talk in
     cc
 
-pub returns-in_ok-open-in-Film : goal.returns-in_ok-open-in-Film
-returns-in_ok-open-in-Film g c =
-    rw c.in-Film.is
-    (over_one (IsFilmRun c.in-Film.from c.in-Film.to) (g.F.Folder.bytes_of c.args.folder.now c.in-Film.cart.now) (g.F.File.Read.remaining c.in_ok-open-in-Film.field-0) (g.F.File.Read.remaining c.film_run.new.cart) (record { input = g.R.Read.remaining c.args.input.now; output = g.W.Write.contents c.args.output.now }) (record { input = g.R.Read.remaining c.film_run.new.input; output = g.W.Write.contents c.film_run.new.output }) c.film_run.result c.in_ok-open-in-Film.ensures.file c.film_run.ensures)
-
-pub returns-in_ok-cart-in-Export : goal.returns-in_ok-cart-in-Export
-returns-in_ok-cart-in-Export g c =
-    rw c.in-Export.is
-    (over_one (IsMovieRun (IsExportAnswer c.in-Export.from c.in-Export.to)) (g.F.Folder.bytes_of c.args.folder.now c.in-Export.cart.now) (g.F.File.Read.remaining c.in_ok-cart-in-Export.cart) (g.F.File.Read.remaining c.export_run.new.cart) (record { input = g.R.Read.remaining c.args.input.now; output = g.W.Write.contents c.args.output.now }) (record { input = g.R.Read.remaining c.export_run.new.input; output = g.W.Write.contents c.export_run.new.output }) c.export_run.result c.in_ok-cart-in-Export.ensures.file c.export_run.ensures)
-
 pub unreachable-requires-in-Desk : goal.unreachable-requires-in-Desk
 unreachable-requires-in-Desk g c =
     let desk : Some c.in-Desk.field-0 ≡ None = sym (ap desk_of c.in-Desk.is) ∙ c.requires.desk in
     cc
 
 pub returns-in-Shot : goal.returns-in-Shot
-returns-in-Shot g c = rw c.in-Shot.is c.run_over-in-Shot.ensures
+returns-in-Shot g c = rw c.in-Shot.is (record { done = c.run_over-in-Shot.result; is = c.ended-in-Shot.ensures; ends = c.run_over-in-Shot.ensures })
+
+pub returns-in-Film : goal.returns-in-Film
+returns-in-Film g c = rw c.in-Film.is (record { done = c.run_film.result; is = c.ended-in-Film.ensures; ends = c.run_film.ensures })
+
+pub returns-in-Export : goal.returns-in-Export
+returns-in-Export g c = rw c.in-Export.is (record { done = c.run_export.result; is = c.ended-in-Export.ensures; ends = c.run_export.ensures })
 
 pub returns-in-Ram : goal.returns-in-Ram
-returns-in-Ram g c = rw c.in-Ram.is c.run_over-in-Ram.ensures
+returns-in-Ram g c = rw c.in-Ram.is c.run_named.ensures
 
 pub returns-in-Digest : goal.returns-in-Digest
-returns-in-Digest g c = rw c.in-Digest.is c.run_over-in-Digest.ensures
+returns-in-Digest g c = rw c.in-Digest.is c.run_named-in-Digest.ensures
 
 pub returns-in-Compare : goal.returns-in-Compare
-returns-in-Compare g c = rw c.in-Compare.is c.run_over-in-Compare.ensures
+returns-in-Compare g c = rw c.in-Compare.is c.run_named-in-Compare.ensures
+
+pub returns-in-Lag : goal.returns-in-Lag
+returns-in-Lag g c = rw c.in-Lag.is c.run_named-in-Lag.ensures
 
 pub returns-in-Cut : goal.returns-in-Cut
-returns-in-Cut g c = rw c.in-Cut.is c.run_over-in-Cut.ensures
+returns-in-Cut g c = rw c.in-Cut.is c.run_named-in-Cut.ensures
 
 pub returns-in-Diff : goal.returns-in-Diff
-returns-in-Diff g c = rw c.in-Diff.is c.run_over-in-Diff.ensures
+returns-in-Diff g c = rw c.in-Diff.is c.run_named-in-Diff.ensures
+
+pub returns-in-Script : goal.returns-in-Script
+returns-in-Script g c = rw c.in-Script.is (record { done = c.run_script.result; is = c.ended-in-Script.ensures; ends = c.run_script.ensures })

@@ -21,4 +21,4 @@ returns-in-Some-desk_of g c =
 pub returns-in-None-desk_of : goal.returns-in-None-desk_of
 returns-in-None-desk_of g c =
     ends_other g.F.Folder.steps (files_by (g.F.Folder.bytes_of c.args.folder.now) (g.F.Folder.held_by c.args.folder.now) (g.F.Folder.shown c.args.folder.now)) c.args.task (record { input = g.R.Read.remaining c.args.input.now; output = g.W.Write.contents c.args.output.now })
-    (record { input = g.R.Read.remaining c.run_engine.new.input; output = g.W.Write.contents c.run_engine.new.output }) c.run_engine.result c.ended.result (sym c.in-None.ensures) (sym c.in-None-talk_of.ensures) (sym c.in-None-desk_of.ensures) c.ended.ensures c.run_engine.ensures
+    (record { input = g.R.Read.remaining c.run_engine.new.input; output = g.W.Write.contents c.run_engine.new.output }) c.run_engine.result (sym c.in-None.ensures) (sym c.in-None-talk_of.ensures) (sym c.in-None-desk_of.ensures) c.run_engine.ensures
