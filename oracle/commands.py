@@ -29,6 +29,9 @@ FLAGS = {"edit": ("--with",), "talk": ("--journal",), "desk": ("--journal",), "r
 KEPT = "day"  # the file of a conversation's journal, or of a recovery's cartridge
 FLAG_NUMBERS = {"--hold": "e", "--most": "s", "--workers": "w", "--until": "j"}
 NUMBER = re.compile(r"\+?0*([0-9]{1,10})")
+# What the files of a command are to it, where its faults name them; the stream is its movie.
+ROLES = {"ram": ["cartridge"], "digest": ["cartridge"], "lag": ["cartridge"], "cut": ["cartridge"], "compare": ["cartridge", "old movie"], "diff": ["cartridge", "old movie"],
+         "edit": ["cartridge", "script", "other movie"]}
 PART, MOST_PARTS = re.compile(r"([1-9][0-9]{0,6})/([1-9][0-9]{0,6})"), 1000000
 
 Wanted = namedtuple("Wanted", "output errors status")  # nothing stands for a text for people
@@ -109,17 +112,25 @@ class Inputs:
 
     def __init__(self, files, stream):
         self.files, self.stream = files, stream
+        self.roles = None  # of the files; none of a command whose faults name no input
+
+    def fault(self, place, count, why):
+        """The fault of the input at this place, which is the stream after so many files."""
+        role = "" if self.roles is None else (self.roles[place] if place < count else "movie") + ": "
+        return hands.Fault(role + why)
 
     def read(self, names, has_stream=True):
         """The bytes of these files, and of the stream last."""
         for name in names:
             if "/" in name and name not in self.files:
                 raise Open("a path")
-        if not all(name in self.files for name in names):
-            raise hands.Fault("read failed")
+        for place, name in enumerate(names):
+            if name not in self.files:
+                raise self.fault(place, len(names), "read failed")
         found = [self.files[name] for name in names] + ([self.stream] if has_stream else [])
-        if any(len(data) > MOST_BYTES for data in found):
-            raise hands.Fault("input is too long")
+        for place, data in enumerate(found):
+            if len(data) > MOST_BYTES:
+                raise self.fault(place, len(names), "input is too long")
         return found
 
 
@@ -127,6 +138,16 @@ def sized(cart):
     if len(cart) not in (2048, 4096):
         raise hands.Fault("cartridge has %d bytes" % len(cart))
     return cart
+
+
+def read_second(text, cart, which, detail):
+    """The movie of a file beside the one on the stream; its fault says which movie it is of."""
+    try:
+        return readings.read_movie(text, cart)
+    except hands.Fault as fault:
+        named = hands.Fault("%s %s" % (which, fault))
+        named.detail = detail
+        raise named from None
 
 
 def within(first, last, most, length):
@@ -167,6 +188,7 @@ class Run:
 
     def ran(self, command, found, flagged):
         self.output = self.errors = b""
+        self.inputs.roles = ROLES.get(command)
         try:
             named = {"image" if command == "recover" and flag == "--cart" else flag[2:]: word for flag, word in flagged.items()}
             self.output = getattr(self, command)(*[value for _, value in found], **named)
@@ -184,13 +206,12 @@ class Run:
     def two_movies(self, cart, old):
         """The cartridge, the movie of a file, and the one on the stream."""
         cart, old, text = self.inputs.read([cart, old])
-        found = [sized(cart)]
-        for which, movie in (("first", old), ("second", text)):
-            try:
-                found.append(readings.read_movie(movie, cart))
-            except hands.Fault as fault:
-                fault.detail = which + " text"
-                raise
+        found = [sized(cart), read_second(old, cart, "old", "first text")]
+        try:
+            found.append(readings.read_movie(text, cart))
+        except hands.Fault as fault:
+            fault.detail = "second text"
+            raise
         return tuple(found)
 
     def check(self, cart):
@@ -287,7 +308,7 @@ class Run:
         others = [flagged["with"]] if flagged else []
         cart, script, *others, text = self.inputs.read([cart, script] + others)
         sized(cart)
-        others = [readings.read_movie(other, cart) for other in others]
+        others = [read_second(other, cart, "other", "other text") for other in others]
         frames = readings.read_movie(text, cart)
         return hands.movie_text(cart, hands.edited(frames, others[0] if others else None, script.decode("latin-1"), self.seen))
 

@@ -15,6 +15,8 @@ mod movie_program_tests;
 #[cfg(test)]
 mod movies;
 #[cfg(test)]
+mod naming_tests;
+#[cfg(test)]
 mod output_word_tests;
 #[cfg(test)]
 mod played_tests;

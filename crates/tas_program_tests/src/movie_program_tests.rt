@@ -107,7 +107,7 @@ static REFUSED_EDITS: [Refused<'static>; 9] = [
         &["edit", "game.bin", "nothing"],
         b"",
         THREE_FRAMES,
-        b"fault: read failed\n",
+        b"fault: script: read failed\n",
     ),
     (
         EDIT,
@@ -119,13 +119,13 @@ static REFUSED_EDITS: [Refused<'static>; 9] = [
         &["edit", "game.bin", "other", "--with", "other"],
         b"delete 0 1\n",
         THREE_FRAMES,
-        b"fault: movie line 1: head\n",
+        b"fault: other movie line 1: head\n",
     ),
     (
         &["edit", "game.bin", "other", "--with", "nothing"],
         b"delete 0 1\n",
         THREE_FRAMES,
-        b"fault: read failed\n",
+        b"fault: other movie: read failed\n",
     ),
     (
         &["cut", "game.bin", "1", "4"],
@@ -137,7 +137,7 @@ static REFUSED_EDITS: [Refused<'static>; 9] = [
         &["cut", "nothing", "0", "1"],
         b"",
         THREE_FRAMES,
-        b"fault: read failed\n",
+        b"fault: cartridge: read failed\n",
     ),
 ];
 
@@ -152,7 +152,7 @@ static REFUSED: [Refused<'static>; 5] = [
         DIFF,
         b"a26movie 1\n",
         THREE_FRAMES,
-        b"fault: movie line 2: end\n",
+        b"fault: old movie line 2: end\n",
     ),
     (
         &["script", "--cart", "nothing", "--movie", "other"],

@@ -121,9 +121,15 @@ static FAULTS: [(&[&str], &[u8]); 8] = [
         &["ram", "game.bin", "0", "7"],
         b"fault: range 0 to 7 of 5\n",
     ),
-    (&["ram", "nothing", "0", "1"], b"fault: read failed\n"),
+    (
+        &["ram", "nothing", "0", "1"],
+        b"fault: cartridge: read failed\n",
+    ),
     (&["digest", "game.bin"], b"fault: halted at F00D by 02\n"),
-    (&["compare", "game.bin", "nothing"], b"fault: read failed\n"),
+    (
+        &["compare", "game.bin", "nothing"],
+        b"fault: old movie: read failed\n",
+    ),
 ];
 
 #[test]
