@@ -70,7 +70,7 @@ IsNamedFault roles read fault named = IsNamedAmong (second_of roles) roles read 
 
 -- the end of a command that has read these inputs
 abbrev pub IsNamedEnd : Roles → (read : List (List ℕ)) → Result (Unit {0}) RunFault → Result (Unit {0}) TaskFault → Type 0
-IsNamedEnd roles read (Ok u) end = end ≡ Ok u
+IsNamedEnd roles read (Ok u) end = end ≡ Ok tt
 IsNamedEnd roles read (Err fault) end = (named : TaskFault) × (end ≡ Err named) × IsNamedFault roles read fault named
 
 -- ---- a command

@@ -56,11 +56,7 @@ pub enum Roles {
 fn role_in(roles: &[Role], place: usize) -> Role
     ensures { result ≡ role_in roles.now place }
 {
-    if place < roles.len() {
-        roles[place]
-    } else {
-        Role::Movie
-    }
+    roles.get(place).copied().unwrap_or(Role::Movie)
 }
 
 /// What the input at a place, counted from 0, is to the command.
