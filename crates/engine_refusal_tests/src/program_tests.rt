@@ -1,6 +1,6 @@
 //! The whole program with one growth refused: of its words, of its texts, and of what it does.
 
-use crate::checks::{check_same, expect_ok};
+use crate::checks::{check_same, check_that, expect_ok};
 use crate::heaps::{Heap, NEVER, refuse, refusing};
 use crate::inputs::{Bytes, make_inputs};
 use std::alloc::Global;
@@ -231,4 +231,15 @@ fn each_growth_of_the_program(rt: HostRuntime) {
         let counts = count_refused(&rt, alloc, words, streams);
         check_same(&rt, ("words", number), counts, Ok((refused, ended)));
     }
+}
+
+/// Words of a difference whose older movie is none. That the fault is of this movie is seen by reading it once more.
+const NO_OLD_MOVIE: &[&str] = &["tas", "diff", "game.bin", "fix.script"];
+
+#[test]
+fn each_growth_of_a_fault_that_names_its_movie(rt: HostRuntime) {
+    let alloc = rt.alloc();
+    let bytes = make_inputs(&rt, alloc);
+    let counts = count_refused(&rt, alloc, NO_OLD_MOVIE, streams_of(&bytes, false));
+    check_that(&rt, "growths", counts.is_ok());
 }
