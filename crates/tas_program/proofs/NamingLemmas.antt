@@ -166,7 +166,7 @@ unsaved_text role None error save is = cc
 
 unsaved_by : (said : Option TextError) (role : Role) (image text : List ℕ) (fault : RunFault) (save : SaveFault) → IsNamedBy said role image text fault (NotSaved save) → ⊥
 unsaved_by (Some error) role image text fault save (inl is) = unsaved_text role (text_error text image) error save is
-unsaved_by (Some error) role image text fault save (inr is) = cc
+unsaved_by (Some error) role image text fault save (inr (why, fails, none, is)) = cc
 unsaved_by None role image text fault save is = cc
 
 unsaved_among : (second : Option ℕ) (roles : Roles) (read : List (List ℕ)) (fault : RunFault) (save : SaveFault) → IsNamedAmong second roles read fault (NotSaved save) → ⊥

@@ -4,12 +4,13 @@ use Rattle.std.specs.Io.KnownBytes.{Keeps}
 use Rattle.tas_movie.specs.declared.error.TextError.{TextError}
 use Rattle.tas_movie.specs.Fault.{fault as text_error}
 use Rattle.tas_engines.specs.declared.fault.ReadFault.{ReadFault}
-use Rattle.tas_engines.specs.declared.fault.ReadFault.TheVariants.{Failed, Memory as NoMemory}
+use Rattle.tas_engines.specs.declared.fault.ReadFault.TheVariants.{Failed, Memory}
 use Rattle.tas_engines.specs.declared.fault.RunFault.{RunFault}
-use Rattle.tas_engines.specs.declared.fault.RunFault.TheVariants.{Text, Memory}
+use Rattle.tas_engines.specs.declared.fault.RunFault.TheVariants.{Text}
 use Rattle.tas_engines.specs.declared.fault.ToolFault.TheVariants.{Read, Run}
 use Rattle.tas_engines.specs.Commands.{Answers, bytes_of, in_order}
 use Rattle.tas_engines.specs.Input.{AreReadWhole, StopsReading}
+use Rattle.tas_engines.specs.Movies.{IsMovieFault}
 use Rattle.tas_engines.specs.Output.{Ends}
 use Rattle.tas_program.specs.declared.roles.Role.{Role}
 use Rattle.tas_program.specs.declared.roles.Roles.{Roles}
@@ -51,9 +52,11 @@ abbrev pub named_text : Role → Option TextError → TextError → TaskFault
 named_text role (Some own) error = NotMovie role own
 named_text role None error = Tool (Run (Text error))
 
--- the same of the movie with this cartridge and this text; or there is no memory to read it once more
+-- the same of the movie with this cartridge and this text; or why it can't be read once more, such as that there is no memory
 abbrev pub IsNamedText : Role → (image text : List ℕ) → TextError → TaskFault → Type 0
-IsNamedText role image text error named = (named ≡ named_text role (text_error text image) error) ⊎ (named ≡ Tool (Run Memory))
+IsNamedText role image text error named =
+    (named ≡ named_text role (text_error text image) error)
+    ⊎ ((why : RunFault) × IsMovieFault image text why × (text_of why ≡ None) × (named ≡ Tool (Run why)))
 
 -- the same of any fault: one that isn't of a text stays as it is
 abbrev pub IsNamedBy : Option TextError → Role → (image text : List ℕ) → RunFault → TaskFault → Type 0
@@ -85,7 +88,7 @@ IsNamedRun roles answers files files' input input' output output' end =
 
 -- one of so many files can't be opened, or there is no memory for their list
 abbrev pub IsUnopened : Roles → ℕ → TaskFault → Type 0
-IsUnopened roles count named = ((place : ℕ) × (place < count) × (named ≡ Unread (role_of roles place) Failed)) ⊎ (named ≡ Tool (Read NoMemory))
+IsUnopened roles count named = ((place : ℕ) × (place < count) × (named ≡ Unread (role_of roles place) Failed)) ⊎ (named ≡ Tool (Read Memory))
 
 -- files are opened first: one can't be, and the streams are as before; or the command ends over them, whatever it leaves of them
 abbrev pub EndsNamed : Roles → List (Option (List ℕ)) → Answers → StreamBytes → StreamBytes → Result (Unit {0}) TaskFault → Type 0

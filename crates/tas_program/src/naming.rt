@@ -126,8 +126,8 @@ fn name_error<A: Allocator + Copy>(
         }
         Err(why) => match text_of(why) {
             Some(own) => TaskFault::NotMovie { role, error: own },
-            // Not `Size`: the command has made a cartridge of the image.
-            None => TaskFault::Tool(ToolFault::Run(RunFault::Memory)),
+            // Out of memory: the command has made a cartridge of the image.
+            None => TaskFault::Tool(ToolFault::Run(why)),
         },
     }
 }

@@ -12,4 +12,4 @@ returns-in-Some g c =
     (subst (IsMovieFault c.args.image.now c.args.text.now) (text_of_is c.in-Err.why c.in-Some.own (sym c.in-Some.ensures)) c.in-Err.ensures)
 
 pub returns-in-None : goal.returns-in-None
-returns-in-None g c = inr refl
+returns-in-None g c = inr (c.in-Err.why, c.in-Err.ensures, sym c.in-None.ensures, refl)
