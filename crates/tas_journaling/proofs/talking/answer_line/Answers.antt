@@ -1,4 +1,5 @@
-use Rattle.std.proofs.Common.{Err, sym, subst}
+use Rattle.std.proofs.lemmas.Grind.{common_steps}
+use Rattle.std.proofs.Common.{Err, sym, subst, arith}
 use Rattle.tas_seat.specs.Conversations.{talking}
 use Rattle.tas_journaling.specs.declared.talking.TalkFault.{TalkFault}
 use Rattle.tas_journaling.specs.Inside.{IsNotedTurn}
@@ -22,3 +23,6 @@ returns-in-Err-clause-turn g c = λ said holds none.
     (g.W.Write.contents c.answer_noted.new.output) (Err f)) (sym c.counted.ensures)
     (known_broken g.met.H.Noting.laws (talking c.args.seat.now c.args.draft.now) (talking c.answer_noted.new.seat c.answer_noted.new.draft) c.args.journal.now c.answer_noted.new.journal said c.args.written _ _ c.in-Some.request c.in-Err.fault none (c.in-Some.ensures said holds) c.in-Err.ensures.answer
     c.in-Err.ensures.entry)
+
+pub returns-in-Ok-None-clause-turn : goal.returns-in-Ok-None-clause-turn
+returns-in-Ok-None-clause-turn g c = grind (arith, common_steps)

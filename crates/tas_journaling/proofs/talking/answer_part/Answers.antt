@@ -1,4 +1,5 @@
-use Rattle.std.proofs.Common.{[], ◌++◌, ◌∙◌}
+use Rattle.std.proofs.lemmas.Grind.{common_steps}
+use Rattle.std.proofs.Common.{[], ◌++◌, ◌∙◌, arith}
 use Rattle.tas_seat.specs.Conversations.{talking}
 use Rattle.tas_journaling.proofs.TalkLemmas.{at_line, breaks_off, goes_on, memory_ends, no_newline, quits}
 use Rattle.tas_journaling.proofs.talking.answer_part.Goals as goal
@@ -50,3 +51,12 @@ pub returns-clause-turn : goal.returns-clause-turn
 returns-clause-turn g c = λ start first input said holds none way.
     let (held, i) = c.loop-front.invariant.way start first input said holds none way in
     (held ++ c.loop-front.rest.now, no_newline held c.loop-front.rest.now i.none c.in_default.ensures.none, c.in-Ok-add.ensures.added held i.holds, i.way)
+
+pub loop-front-smaller : goal.loop-front-smaller
+loop-front-smaller g c = grind (arith, common_steps)
+
+pub loop-front-init : goal.loop-front-init
+loop-front-init g c = grind (arith, common_steps)
+
+pub returns-in-Ok-None-clause-first : goal.returns-in-Ok-None-clause-first
+returns-in-Ok-None-clause-first g c = grind (arith, common_steps)

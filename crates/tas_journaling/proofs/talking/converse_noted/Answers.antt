@@ -1,3 +1,4 @@
+use Rattle.std.proofs.lemmas.Grind.{common_steps}
 use Rattle.std.proofs.Common.{ℕ, [], take, None, ap, refl, ◌∙◌, arith, rules}
 use Rattle.tas_seat.specs.Conversations.{talking}
 use Rattle.tas_journaling.proofs.TalkLemmas.{begins, last_ends, memory_ends, reads_on, reads_out, unread}
@@ -47,3 +48,21 @@ returns-in-Err-clause-talk g c =
     let (said, i) = c.loop.invariant.way in
     c.in-Err.ensures.turn c.args.seat.now _ _ said i.holds i.none
     (reads_on g.met.H.Noting.laws c.args.seat.now _ (talking c.loop.seat c.loop.draft) c.loop.written _ _ _ c.loop.journal said (take c.in-Ok-read.count c.read.new.buf) i.way c.in-Ok-read.ensures.bytes.0)
+
+pub loop-init-derived : goal.loop-init-derived
+loop-init-derived g c = grind (arith, common_steps)
+
+pub returns-then-count-eq0-clause-first : goal.returns-then-count-eq0-clause-first
+returns-then-count-eq0-clause-first g c = grind (arith, common_steps)
+
+pub returns-in-Ok-None-clause-first : goal.returns-in-Ok-None-clause-first
+returns-in-Ok-None-clause-first g c = grind (arith, common_steps)
+
+pub returns-in-Err-clause-first : goal.returns-in-Err-clause-first
+returns-in-Err-clause-first g c = grind (arith, common_steps)
+
+pub unreachable-requires : goal.unreachable-requires
+unreachable-requires g c = grind (arith, common_steps)
+
+pub returns-in_default-read-clause-first : goal.returns-in_default-read-clause-first
+returns-in_default-read-clause-first g c = grind (arith, common_steps)

@@ -1,3 +1,4 @@
+use Rattle.std.proofs.lemmas.Grind.{common_steps}
 use Rattle.std.proofs.lemmas.Bool.{eqb-true}
 use Rattle.std.proofs.Common.{◌≡◌, length, sym, ◌∙◌, arith}
 use Rattle.tas_journaling.proofs.NoteLemmas.{asked, entries_length, lacks_none, notes_all, notes_less}
@@ -26,3 +27,6 @@ returns-clause-done g c =
     notes_all c.args.seat.now c.history.new.seat c.args.self.now c.note_entries.new.self 18446744073709551615 c.in-Ok.history.at c.as_slice-entries.result.now c.in-Ok.ensures.seat
     (asked c.args.self.now _ 18446744073709551615 c.history.new.seat.front c.in-Ok.history.entries.items _ c.self.view_is c.as_slice-entries.ensures.value c.in-Ok.ensures.entries) c.in-Ok.ensures.at c.in_default-note_entries.ensures.whole c.in_default-note_entries.ensures.first
     c.in_default-note_entries.ensures.upto c.in_default-note_entries.ensures.fault c.in_default-note_entries.ensures.done
+
+pub returns-in-Some-clause-seat : goal.returns-in-Some-clause-seat
+returns-in-Some-clause-seat g c = grind (arith, common_steps)

@@ -1,4 +1,5 @@
-use Rattle.std.proofs.Common.{◌∙◌, ap, sym, subst}
+use Rattle.std.proofs.lemmas.Grind.{common_steps}
+use Rattle.std.proofs.Common.{◌∙◌, ap, sym, subst, arith}
 use Rattle.tas_journaling.specs.Receipts.{own_at}
 use Rattle.tas_journaling.specs.Shared.{HasSynced}
 use Rattle.tas_journaling.proofs.SharedLemmas.{kept_all, kept_less, less_named, begins_all, own_as, seen_on, synced_noted, synced_on, upto_in}
@@ -36,3 +37,30 @@ returns-clause-all g c =
 pub returns-in-Err-clause-named : goal.returns-in-Err-clause-named
 returns-in-Err-clause-named g c =
     less_named g.K.JournalName.head g.K.JournalName.first c.self.inside.seat c.meet.new.one c.note.new.seat c.self.inside.journal c.note.new.self c.in-Err.fault c.self.invariant.0 (sym c.in_default.ensures) c.meet.ensures.one c.in-Err.ensures.fault
+
+pub returns-in-Some-clause-seat : goal.returns-in-Some-clause-seat
+returns-in-Some-clause-seat g c = grind (arith, common_steps)
+
+pub give_receipt-requires-clause-more : goal.give_receipt-requires-clause-more
+give_receipt-requires-clause-more g c = grind (arith, common_steps)
+
+pub returns-in-Some-clause-grows : goal.returns-in-Some-clause-grows
+returns-in-Some-clause-grows g c = grind (arith, common_steps)
+
+pub returns-in-Err-clause-grows : goal.returns-in-Err-clause-grows
+returns-in-Err-clause-grows g c = grind (arith, common_steps)
+
+pub returns-clause-failed : goal.returns-clause-failed
+returns-clause-failed g c = grind (arith, common_steps)
+
+pub returns-clause-begins : goal.returns-clause-begins
+returns-clause-begins g c = grind (arith, common_steps)
+
+pub returns-clause-grows : goal.returns-clause-grows
+returns-clause-grows g c = grind (arith, common_steps)
+
+pub returns-in-Some-clause-failed : goal.returns-in-Some-clause-failed
+returns-in-Some-clause-failed g c = grind (arith, common_steps)
+
+pub returns-in-Err-clause-failed : goal.returns-in-Err-clause-failed
+returns-in-Err-clause-failed g c = grind (arith, common_steps)

@@ -1,4 +1,5 @@
-use Rattle.std.proofs.Common.{◌∙◌, ap}
+use Rattle.std.proofs.lemmas.Grind.{common_steps}
+use Rattle.std.proofs.Common.{◌∙◌, ap, arith}
 use Rattle.tas_journaling.specs.Receipts.{own_at}
 use Rattle.tas_journaling.proofs.SharedLemmas.{begins_blank, own_as, synced_blank}
 use Rattle.tas_journaling.proofs.shared_journal.SharedJournal.new.Goals as goal
@@ -13,3 +14,9 @@ invariant_of-new g c =
       own_as g.K.JournalName.own c.args.seat c.meet-at.new.one c.meet-at.ensures.one c.requires.own,
       synced_blank g.J.JournalFile.kept g.K.JournalName.head g.K.JournalName.first c.meet-at.new.one.front c.args.journal begins blank.whole (c.is_blank.ensures.kept c.if-not-is_blank.false),
     )
+
+pub returns-then-not-is_blank-clause-refused : goal.returns-then-not-is_blank-clause-refused
+returns-then-not-is_blank-clause-refused g c = grind (arith, common_steps)
+
+pub give_receipt-requires-clause-more : goal.give_receipt-requires-clause-more
+give_receipt-requires-clause-more g c = grind (arith, common_steps)
