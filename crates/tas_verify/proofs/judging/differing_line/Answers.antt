@@ -1,3 +1,4 @@
+use Rattle.std.proofs.lemmas.Grind.{common_steps}
 use Rattle.std.proofs.Common.{◌<◌, length, arith}
 use Rattle.tas_verify.proofs.RowLemmas.{differ_here, differ_at, differ_ended}
 use Rattle.tas_verify.proofs.judging.differing_line.Goals as goal
@@ -17,3 +18,6 @@ returns-else-now-stored-clause-some c =
     let ended = differ_ended now stored c.loop-at.at (omega (arith, c.loop-at.auto.at-end, c.min-end.ensures)) (omega (arith, c.loop-at.auto.at-end, c.min-end.ensures))
     (λ p q. omega (arith, p, q, c.loop-at-test.false, c.min-end.ensures)) (λ e. omega (arith, e, c.if-now-stored.false)) in
     differ_here now stored c.loop-at.at c.loop-at.line c.loop-at.invariant.same ended c.loop-at.invariant.place
+
+pub loop-at-preserved : goal.loop-at-preserved
+loop-at-preserved c = grind (arith, common_steps)

@@ -1,3 +1,4 @@
+use Rattle.std.proofs.lemmas.Grind.{common_steps}
 use Rattle.std.proofs.Common.{[], ◌∷◌, ◌++◌, List, map, refl, sym, subst, arith}
 use Rattle.std.specs.Prelude.{option_map}
 use Rattle.tas_verify.specs.declared.manifest.Row.{Row}
@@ -22,3 +23,15 @@ loop-rest-preserved g c =
         room = omega (arith, i.room, shorter);
       },
     )
+
+pub loop-rest-smaller : goal.loop-rest-smaller
+loop-rest-smaller g c = grind (arith, common_steps)
+
+pub returns-in_default-clause-fault : goal.returns-in_default-clause-fault
+returns-in_default-clause-fault g c = grind (arith, common_steps)
+
+pub returns-in_default-read_line-clause-fault : goal.returns-in_default-read_line-clause-fault
+returns-in_default-read_line-clause-fault g c = grind (arith, common_steps)
+
+pub returns-clause-read : goal.returns-clause-read
+returns-clause-read g c = grind (arith, common_steps)

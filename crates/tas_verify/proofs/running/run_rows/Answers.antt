@@ -1,3 +1,4 @@
+use Rattle.std.proofs.lemmas.Grind.{common_steps}
 use Rattle.std.proofs.Common.{◌≡◌, ◌+◌, ◌-◌, ◌≤◌, ◌++◌, List, [], length, map, take, drop, ap, sym, subst, ◌∙◌, arith}
 use Rattle.std.specs.Prelude.{count_by}
 use Rattle.std.proofs.lemmas.List.{length-map}
@@ -56,3 +57,6 @@ returns g c =
     let all = far_all facts (map words_in rows) c.loop-at.at (g.W.Write.contents c.args.output.now) (g.W.Write.contents c.loop-at.output) c.loop-at.written c.loop-at.same (length rows) ends far (rows_all rows c.loop-at.at (omega (arith, c.loop-at-test.false)))
     (sym (length-map rows words_in)) in
     all_ended facts (map words_in rows) (g.W.Write.contents c.args.output.now) (g.W.Write.contents c.loop-at.output) (g.W.Write.contents c.write_tally.new.output) c.loop-at.written _ ends c.write_tally.result all c.write_tally.ensures.all c.write_tally.ensures.fault
+
+pub loop-at-smaller : goal.loop-at-smaller
+loop-at-smaller g c = grind (arith, common_steps)
