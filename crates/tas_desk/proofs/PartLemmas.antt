@@ -15,10 +15,8 @@ use Rattle.tas_desk.specs.Inside.Parting.{HasRoom}
 -- ---- how many inputs entries put in
 
 -- one entry more
-pub inputs_more : {A : Type 0} (entries : List (Entry A)) (k : ℕ) (entry : Entry A) → k < length entries → entry ≡ get_or entries k entry → inputs_in (take (k + 1) entries) ≡ inputs_in (take k entries) + inputs_of entry.edit
-inputs_more {A} entries k entry lt here =
-    sum_by_more (λ (e : Entry A). inputs_of e.edit) entries k entry lt
-    ∙ ap (λ (e : Entry A). inputs_in (take k entries) + inputs_of e.edit) (sym here)
+pub inputs_more : {A : Type 0} (entries : List (Entry A)) (k : ℕ) (entry : Entry A) → k < length entries → inputs_in (take (k + 1) entries) ≡ inputs_in (take k entries) + inputs_of (get_or entries k entry).edit
+inputs_more {A} entries k entry lt = sum_by_more (λ (e : Entry A). inputs_of e.edit) entries k entry lt
 
 -- fewer entries put in no more
 pub inputs_fewer : {A : Type 0} (entries : List (Entry A)) (m n : ℕ) → m ≤ n → inputs_in (take m entries) ≤ inputs_in (take n entries)
@@ -171,10 +169,10 @@ ends_no_earlier {A} entries (suc n) k le can = elim (cases_Bool (can_end entries
 -- ---- what the code counts
 
 -- one more entry would put in too much
-pub room_ends : {A : Type 0} (entries : List (Entry A)) (k most room more : ℕ) (entry : Entry A) → most ≡ min (length entries) most_entries → k < most → entry ≡ get_or entries k entry
-    → inputs_in (take k entries) + room ≡ most_inputs → more ≡ inputs_of entry.edit → room < more → HasRoom entries k
-room_ends entries k most room more entry is lt here so_far adds over =
-    let next = inputs_more entries k entry (omega (arith, is, lt)) here in
+pub room_ends : {A : Type 0} (entries : List (Entry A)) (k most room more : ℕ) (entry : Entry A) → most ≡ min (length entries) most_entries → k < most
+    → inputs_in (take k entries) + room ≡ most_inputs → more ≡ inputs_of (get_or entries k entry).edit → room < more → HasRoom entries k
+room_ends entries k most room more entry is lt so_far adds over =
+    let next = inputs_more entries k entry (omega (arith, is, lt)) in
     record {
       there = omega (arith, is, lt);
       few = omega (arith, is, lt);

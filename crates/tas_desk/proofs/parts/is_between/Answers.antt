@@ -6,9 +6,9 @@ pub returns-then-count-eq0 : goal.returns-then-count-eq0
 returns-then-count-eq0 g c = sym (not_at_start c.args.entries.now c.args.count c.if-count-eq0.true)
 
 pub returns-then-len-count : goal.returns-then-len-count
-returns-then-len-count g c = sym (not_at_end c.args.entries.now c.args.count (omega (arith, c.len-len.ensures, c.if-len-count.true)))
+returns-then-len-count g c = sym (not_at_end c.args.entries.now c.args.count (omega (arith, c.if-len-count.true)))
 
 pub returns : goal.returns
 returns g c =
     c.may_be_one.ensures
-    ∙ sym (between_read c.args.entries.now c.args.count (c.args.count - 1) c.index-entries-last.result c.index-entries-count.result (omega (arith, c.if-count-eq0.false)) (omega (arith, c.len-len.ensures, c.if-len-count.false)) c.index-entries-last.is c.index-entries-count.is)
+    ∙ sym (between_read c.args.entries.now c.args.count (c.args.count - 1) c.index-entries-last.result c.index-entries-count.result (omega (arith, c.if-count-eq0.false)) (omega (arith, c.if-len-count.false)) c.index-entries-last.is c.index-entries-count.is)
