@@ -102,13 +102,13 @@ deletes_alone (Replace at inputs) next is = absurd (false≢true is)
 deletes_alone (Delete at count) next is = refl
 
 one_fits : {A : Type 0} (entry : Entry A) (entries : List (Entry A)) → inputs_of entry.edit ≤ most_inputs → inputs_in (take 1 (entry ∷ entries)) ≤ most_inputs
-one_fits entry entries few = let one = inputs_more (entry ∷ entries) 0 entry (omega arith) refl in omega (arith, one, few)
+one_fits entry entries few = let one = inputs_more (entry ∷ entries) 0 entry (omega arith) in omega (arith, one, few)
 
 two_fit : {A : Type 0} (entry next : Entry A) (entries : List (Entry A)) → is_exchange entry.edit next.edit ≡ true → inputs_of next.edit ≤ most_inputs → inputs_in (take 2 (entry ∷ next ∷ entries)) ≤ most_inputs
 two_fit entry next entries pair few =
     let none = deletes_alone entry.edit next.edit pair in
-    let one = inputs_more (entry ∷ next ∷ entries) 0 entry (omega arith) refl in
-    let two = inputs_more (entry ∷ next ∷ entries) 1 next (omega arith) refl in
+    let one = inputs_more (entry ∷ next ∷ entries) 0 entry (omega arith) in
+    let two = inputs_more (entry ∷ next ∷ entries) 1 next (omega arith) in
     omega (arith, one, two, none, few)
 
 first_pair : {A : Type 0} (entry next : Entry A) (entries : List (Entry A)) → is_between (entry ∷ next ∷ entries) 1 ≡ true → is_exchange entry.edit next.edit ≡ true

@@ -86,7 +86,7 @@ pub fn parts_have_whole_commits<A: Allocator>()
         (before after : List (Entry A)) (from : ℕ) → IsStroke base new (first ∷ next ∷ [])
         → from ≤ length before
         → from + length (one_part (drop from
-            (before ++ (entries_from seat serial (first ∷ next ∷ []) ++ after))))
+        (before ++ (entries_from seat serial (first ∷ next ∷ []) ++ after))))
         ≢ length before + 1 }
     ensures goes_on { (history front : List (Entry A)) (from : ℕ) → IsLegal history
         → IsPrefix front history → from < length front
