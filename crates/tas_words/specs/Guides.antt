@@ -124,7 +124,7 @@ abbrev pub next_guides : List Guide
 next_guides =
     guide (codes "new") (codes "tas new [OPTIONS] <CART> <FRAMES>") None (false ∷ true ∷ []) (codes "output" ∷ [])
     ∷ guide (codes "recover") (codes "tas recover [OPTIONS] <CART> < JOURNAL")
-    (Some (codes "the journal is read from standard input: tas recover game.bin -o game.movie < game.journal")) (false ∷ []) (codes "until" ∷ codes "output" ∷ [])
+    (Some (codes "the journal is read from standard input: tas recover game.bin -o game.movie < game.journal")) (false ∷ []) (codes "cart" ∷ codes "until" ∷ codes "output" ∷ [])
     ∷ guide (codes "search") (codes "tas search [OPTIONS] <CART> <FROM> <FRAMES> <GOAL> < MOVIE")
     (Some (codes "the movie is read from standard input: tas search game.bin 60 12 'reach byte:80 == 85' < game.movie")) (false ∷ true ∷ true ∷ false ∷ [])
     (codes "choices" ∷ codes "names" ∷ codes "hold" ∷ codes "first" ∷ codes "most" ∷ codes "workers" ∷ codes "report" ∷ [])

@@ -12,6 +12,6 @@ returns-in-Some g c =
     tip_told (map string_bytes c.args.texts.now) (guide_of c.args.command) (given_of c.in_ok-given.given) _ c.args.command.tip c.in-Some.tip _ _ c.in_ok-given.ensures c.is_tipped.ensures c.if-not-is_tipped.false
     refl c.in-Some.is c.as_str.ensures.value c.in_ok-new-in-Some.ensures
 
-pub returns-in-None : goal.returns-in-None
-returns-in-None g c =
+pub returns : goal.returns
+returns g c =
     tip_lacks (map string_bytes c.args.texts.now) (guide_of c.args.command) (given_of c.in_ok-given.given) _ c.args.command.tip c.in_ok-given.ensures c.is_tipped.ensures c.if-not-is_tipped.false refl c.in-None.is
