@@ -77,7 +77,7 @@ recovered files words cart left old new end is ran = inr (left, subst (λ (c : O
 -- the file that is named for a cartridge was replaced by it, or wasn't
 pub image_kept : (steps : FileSteps) (named : Option (Bor (List ℕ))) (name : Bor (List ℕ)) (image : List ℕ) (files files' : Option Files) (saved : Result (Unit {0}) SaveFault) (end : Result (Unit {0}) TaskFault) → named ≡ Some name
     → end ≡ image_end saved → SaveEnds steps name.now image files files' saved → KeepsImage steps named image end
-image_kept steps named name image files files' saved end is ended saves = rw is (saved, ended, files, files', saves)
+image_kept steps named name image files files' saved end is ended saves = rw is (saved, ended, (files, files', saves))
 
 -- the same of the cartridge of a movie that was recovered, and the report
 pub reported_kept : (steps : FileSteps) (named : Option (Bor (List ℕ))) (done : Result (Recovered GlobalType) TaskFault) (found : Recovered GlobalType) (image : List ℕ) (kept : Result (Unit {0}) TaskFault) (end : Result (List ℕ) TaskFault) → done ≡ Ok found

@@ -60,16 +60,16 @@ desk_name desk word = None
 
 -- the same of a recovery whose cartridge replaces a file of this name, beside its output
 abbrev pub kept_name : RecoveryWords → List ℕ → FileWord → Option (List ℕ)
-kept_name words image CartWord = Some words.cart.now
-kept_name words image Input = Some (codes "/dev/stdin")
-kept_name words image Output = Some (codes "/dev/stdout")
-kept_name words image ImageWord = Some image
-kept_name words image word = None
+kept_name recovery image CartWord = Some recovery.cart.now
+kept_name recovery image Input = Some (codes "/dev/stdin")
+kept_name recovery image Output = Some (codes "/dev/stdout")
+kept_name recovery image ImageWord = Some image
+kept_name recovery image word = None
 
 -- one that has no such file reads its inputs whole before it writes, so its files aren't looked at
 abbrev pub recovery_name : RecoveryWords → Option (Bor (List ℕ)) → FileWord → Option (List ℕ)
-recovery_name words None word = None
-recovery_name words (Some image) word = kept_name words image.now word
+recovery_name recovery None word = None
+recovery_name recovery (Some image) word = kept_name recovery image.now word
 
 -- the same of each task; other tasks read their inputs whole before they write, too
 abbrev pub name_of : Task → FileWord → Option (List ℕ)
