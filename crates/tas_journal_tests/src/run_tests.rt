@@ -180,13 +180,7 @@ fn is_written<R: Abort>(
 ) -> bool {
     let (mut cart, mut input) = (BLANK_IMAGE.as_slice(), JOURNAL);
     let mut output = Taker::new(alloc, 7, Room::Writes(room), failure);
-    let end = end_of(recover_run(
-        alloc,
-        usize::MAX,
-        &mut cart,
-        &mut input,
-        &mut output,
-    ));
+    let end = end_of(recover_run(alloc, usize::MAX, &mut cart, &mut input, &mut output));
     let written = output.taken.len();
     let is_first = whole.starts_with(output.taken.as_slice());
     check_that(rt, ("first bytes", room), is_first);
@@ -227,13 +221,7 @@ fn is_done<R: Abort>(rt: &R, alloc: Global, number: u64, whole: &[u8]) -> bool {
     let heap = Refusing::new(alloc, number.max(1));
     let (mut cart, mut input) = (BLANK_IMAGE.as_slice(), JOURNAL);
     let mut output = Vec::new(alloc);
-    let end = end_of(recover_run(
-        &heap,
-        usize::MAX,
-        &mut cart,
-        &mut input,
-        &mut output,
-    ));
+    let end = end_of(recover_run(&heap, usize::MAX, &mut cart, &mut input, &mut output));
     if !heap.has_refused() {
         check_same(rt, ("end", number), end, done(4, false));
         check_that(rt, ("text", number), output.as_slice() == whole);
