@@ -165,10 +165,6 @@ abbrev pub is_flag : Text → Bool
 is_flag [] = false
 is_flag (byte ∷ bytes) = byte == 45 && not (length bytes == 0)
 
--- a text is no flag
-abbrev pub is_plain : Text → Bool
-is_plain text = not (is_flag text)
-
 -- one of the texts stands where there is no word left, or where a number is wanted that it can't be
 abbrev pub has_stray : List Bool → List Text → Bool
 has_stray numbers [] = false
@@ -213,7 +209,7 @@ nothing_given = record { words = []; flags = []; awaits = false; is_known = true
 
 -- a text can be the value of the flag before it
 abbrev pub is_value : Text → Bool
-is_value text = is_plain text && not (length text == 0)
+is_value text = not (is_flag text) && not (length text == 0)
 
 -- a text more leaves the flags known: it needs no quotes, and is one of the command's flags, or a value where one is awaited
 abbrev pub fits : List Text → Bool → Bool → Text → Bool
@@ -230,13 +226,9 @@ with_flag flags text given = record given {
   is_known = fits flags given.is_known given.awaits text;
 }
 
--- a text is a flag or the value of one
-abbrev pub is_kept : Bool → Text → Bool
-is_kept awaits text = awaits || is_flag text
-
--- what was given, with a text more
+-- what was given, with a text more: a flag, the value of one, or a word
 abbrev pub with_text : List Text → Given → Text → Given
-with_text flags given text = if is_kept given.awaits text then with_flag flags text given else record given { words = given.words ++ text ∷ [] }
+with_text flags given text = if given.awaits || is_flag text then with_flag flags text given else record given { words = given.words ++ text ∷ [] }
 
 -- what these texts give a command with these flags
 abbrev pub given_by : List Text → List Text → Given

@@ -8,7 +8,7 @@ ghost use Rattle.std.specs.Prelude.{◌≡◌, IfOk, OnOk, find, map, option_map
 ghost use Rattle.std.specs.List.{list_all, list_any};
 ghost use Rattle.std.specs.Str.{bytes_eq};
 ghost use Rattle.clap.specs.Lexer.{strip_byte};
-ghost use Rattle.tas_words.specs.Guides.{fits, flags_of, given_by, given_of, guide_named, guide_of, has_stray, is_bare_byte, is_flag, is_kept, is_named, is_number_byte, is_one_of, is_tipped, joined, kind_flag, kind_number, long_name, numbers_of, opens, tip_for, tip_of, with_flag, with_flags, with_text};
+ghost use Rattle.tas_words.specs.Guides.{fits, flags_of, given_by, given_of, guide_named, guide_of, has_stray, is_bare_byte, is_flag, is_named, is_number_byte, is_one_of, is_tipped, kind_flag, kind_number, long_name, numbers_of, tip_for, tip_of, with_flags, with_text};
 
 use crate::subcommands::{
     Subcommand, Word, WordKind, first_subcommands, last_subcommands, later_subcommands,
@@ -51,19 +51,12 @@ fn is_flag(text: &str) -> bool
     }
 }
 
-/// Whether a byte needs no quotes in a shell.
-fn is_bare_byte(byte: u8) -> bool
-    ensures { result ≡ is_bare_byte byte }
-{
-    byte.is_ascii_alphanumeric() || b"+,-./:=@_".contains(&byte)
-}
-
 /// Whether a text needs no quotes in a shell.
 fn is_bare(text: &str) -> bool
     ensures { result ≡ list_all is_bare_byte text.now }
 {
     for byte in text.as_bytes() {
-        if !is_bare_byte(*byte) {
+        if !byte.is_ascii_alphanumeric() && !b"+,-./:=@_".contains(byte) {
             return false;
         }
     }
@@ -154,38 +147,6 @@ fn fits(words: &[Word], is_known: bool, awaits: bool, text: &str) -> bool
     is_one_of(words, text)
 }
 
-/// Whether the value of a flag is to come after this text, which is a flag, or the value of one.
-fn opens(awaits: bool, text: &str) -> bool
-    ensures { result ≡ opens awaits text.now }
-{
-    !awaits && !text.as_bytes().contains(&b'=')
-}
-
-/// Whether a text is a flag, or the value of one.
-fn is_kept(awaits: bool, text: &str) -> bool
-    ensures { result ≡ is_kept awaits text.now }
-{
-    awaits || is_flag(text)
-}
-
-/// Adds a flag, or the value of one.
-fn push_flag<A: Allocator>(
-    words: &[Word],
-    text: &str,
-    given: &mut GivenWords<'_, A>,
-) -> Result<(), AllocError>
-    ensures { OnOk result
-        (given_of given.new ≡ with_flag (flags_of words.now) text.now (given_of given.old)) }
-{
-    let is_known = fits(words, given.is_known, given.awaits, text);
-    let awaits = opens(given.awaits, text);
-    given.flags.push_str(text)?;
-    given.flags.push_str(" ")?;
-    given.is_known = is_known;
-    given.awaits = awaits;
-    Ok(())
-}
-
 /// Adds a text: a word, a flag, or the value of one.
 fn push_text<'a, A: Allocator>(
     words: &[Word],
@@ -195,10 +156,14 @@ fn push_text<'a, A: Allocator>(
     ensures { OnOk result
         (given_of given.new ≡ with_text (flags_of words.now) (given_of given.old) text.now) }
 {
-    if is_kept(given.awaits, text) {
-        return push_flag(words, text, given);
+    if !given.awaits && !is_flag(text) {
+        given.words.push(text)?;
+        return Ok(());
     }
-    given.words.push(text)?;
+    given.is_known = fits(words, given.is_known, given.awaits, text);
+    given.awaits = !given.awaits && !text.as_bytes().contains(&b'=');
+    given.flags.push_str(text)?;
+    given.flags.push_str(" ")?;
     Ok(())
 }
 
@@ -311,18 +276,6 @@ fn tip_for<A: Allocator + Copy>(
     }
 }
 
-/// The command that words name, the first of which is the program's name, and the texts after its name.
-fn named_by<A: Allocator>(words: &[String<A>]) -> Option<(Subcommand, &[String<A>])>
-    ensures { joined (option_map
-        (λ call. tip_for (map string_bytes call.1.now) (guide_of call.0)) result)
-        ≡ tip_of (map string_bytes words.now) }
-{
-    let (_, words) = words.split_first()?;
-    let (name, texts) = words.split_first()?;
-    let command = command_named(name.as_str())?;
-    Some((command, texts))
-}
-
 /// The tip for refused words, the first of which is the program's name: where one of them stands in the place of a number, or is one too
 /// many, and the command that they name reads standard input. Its call has the flags that they have.
 pub(crate) fn tip_of<A: Allocator + Copy>(
@@ -332,8 +285,11 @@ pub(crate) fn tip_of<A: Allocator + Copy>(
     ensures { IfOk result
         (λ tip. option_map string_bytes tip ≡ tip_of (map string_bytes words.now)) }
 {
-    match named_by(words) {
-        Some((command, texts)) => tip_for(alloc, command, texts),
+    let [_, name, texts @ ..] = words else {
+        return Ok(None);
+    };
+    match command_named(name.as_str()) {
+        Some(command) => tip_for(alloc, command, texts),
         None => Ok(None),
     }
 }

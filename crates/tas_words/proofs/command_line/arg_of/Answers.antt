@@ -23,3 +23,6 @@ returns-in-PairedFile-clause-rule c = rw c.in-PairedFile.is c.paired_file.ensure
 
 pub returns-in-Output-clause-rule : goal.returns-in-Output-clause-rule
 returns-in-Output-clause-rule c = rw c.in-Output.is c.output.ensures.rule
+
+pub returns-in-LoneFlag-clause-rule : goal.returns-in-LoneFlag-clause-rule
+returns-in-LoneFlag-clause-rule c = rw c.in-LoneFlag.is c.lone_flag.ensures.rule

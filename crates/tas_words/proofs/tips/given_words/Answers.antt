@@ -4,11 +4,7 @@ use Rattle.std.proofs.lemmas.List.{take_all}
 use Rattle.std.proofs.lemmas.List.Folds.{fold-map}
 use Rattle.std.proofs.lemmas.List.Sums.{fold_more}
 use Rattle.tas_words.specs.Guides.{flags_of, nothing_given, with_text}
-use Rattle.tas_words.proofs.TipLemmas.{none_given}
 use Rattle.tas_words.proofs.tips.given_words.Goals as goal
-
-pub loop-text-init : goal.loop-text-init
-loop-text-init g c = none_given _ _ c.new-found.ensures.items c.new-flags.ensures.bytes
 
 pub loop-text-preserved : goal.loop-text-preserved
 loop-text-preserved g c =
