@@ -68,12 +68,7 @@ pub(crate) fn role_of(roles: Roles, place: usize) -> Role
         Roles::CartOldMovie => role_in(&[Role::Cartridge, Role::OldMovie, Role::Movie], place),
         Roles::CartScriptMovie => role_in(&[Role::Cartridge, Role::Script, Role::Movie], place),
         Roles::CartScriptOtherMovie => role_in(
-            &[
-                Role::Cartridge,
-                Role::Script,
-                Role::OtherMovie,
-                Role::Movie,
-            ],
+            &[Role::Cartridge, Role::Script, Role::OtherMovie, Role::Movie],
             place,
         ),
     }

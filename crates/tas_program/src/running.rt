@@ -199,9 +199,7 @@ pub(crate) fn run_engine<
             from,
             to,
             workers,
-        } => ended(run_export(
-            rt, alloc, cart, from, to, workers, folder, input, output,
-        )),
+        } => ended(run_export(rt, alloc, cart, from, to, workers, folder, input, output)),
         Task::Ram { cart, from, to } => {
             let command = commands::Ram { from, to };
             let roles = Roles::CartMovie;
