@@ -57,3 +57,8 @@ loop-caller-preserved g c = grind (arith, common_steps)
 
 pub loop-caller-init-derived : goal.loop-caller-init-derived
 loop-caller-init-derived g c = grind (arith, common_steps)
+
+pub push_reserved-requires-in-loop-caller-2 : goal.push_reserved-requires-in-loop-caller-2
+push_reserved-requires-in-loop-caller-2 g c =
+    let l = c.loop-caller.invariant in
+    room_for_one c.loop-caller.yielded _ c.args.callers.items _ c.in-Some.caller _ _ l.rest c.in-Some.ensures.steps.0 l.ends_len l.ends_room

@@ -1,3 +1,4 @@
+use Rattle.std.proofs.lemmas.Grind.{common_steps}
 use Rattle.std.proofs.Common.{sym, subst, arith}
 use Rattle.std.specs.Io.KnownBytes.{Appends}
 use Rattle.tas_journal.specs.Text.{head_text}
@@ -48,3 +49,9 @@ pub returns-in-Ok-hold_noted-clause-history : goal.returns-in-Ok-hold_noted-clau
 returns-in-Ok-hold_noted-clause-history g c =
     let is = begun_start c.args.movie c.args.seats.items c.pop.new.self.items c.in-Some.own _ _ c.in-Some.ensures.items c.requires.count.1 c.requires.count.0 c.requires.some.0 c.requires.start in
     desk_noted g.D.Door.facts g.J.JournalFile.kept c.in-Ok-begin.journal.bytes c.args.movie _ _ _ (g.J.Write.contents c.args.file) _ _ c.in-Ok-begin.ensures.head (c.in-Ok-hold_noted.ensures.history c.args.movie is.0.has)
+
+pub returns-in-Err-clause-unopened : goal.returns-in-Err-clause-unopened
+returns-in-Err-clause-unopened g c = grind (arith, common_steps)
+
+pub returns-in_default-new-clause-fault : goal.returns-in_default-new-clause-fault
+returns-in_default-new-clause-fault g c = grind (arith, common_steps)

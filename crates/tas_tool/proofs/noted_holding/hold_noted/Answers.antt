@@ -1,3 +1,4 @@
+use Rattle.std.proofs.lemmas.Grind.{common_steps}
 use Rattle.std.proofs.Common.{◌≡◌, ℕ, ◌+◌, List, length, refl, sym, ap, subst, ◌∙◌, arith}
 use Rattle.tas_desk.specs.Seats.{SeatContent}
 use Rattle.tas_tool.specs.Inside.Holding.{AreNumbered, IsNotedStart, IsOwnSeat}
@@ -76,3 +77,6 @@ hold_noted_callers-requires-clause-receipts g c κs within =
     let many : length c.pair_up_noted.new.callers.items ≡ c.len.result =
     callers_count _ c.pair_up_noted.new.callers.items _ c.share_on-shared.new.seats _ c.pair_up_noted.ensures.seats back (c.share_on-shared.ensures.count ∙ c.as_mut_slice.ensures.len ∙ sym c.len.ensures) in
     room_as c.len.result _ c.in-Ok.room.back.receipts many c.in-Ok.ensures.receipts
+
+pub share_on-shared-requires-clause-some : goal.share_on-shared-requires-clause-some
+share_on-shared-requires-clause-some g c = grind (arith, common_steps)

@@ -63,22 +63,20 @@ returns-clause-receipts g c =
     all_moved _ c.loop-caller.yielded rest.items c.args.callers.items _ l.receipts (omega (arith, rest.ok.0, c.in-None.ensures.steps.0)) l.rest
 
 pub loop-caller-preserved : goal.loop-caller-preserved
-loop-caller-preserved g c = record {
-  rest = grind (arith, common_steps);
-  len = grind (arith, common_steps);
-  doors = grind (arith, common_steps);
-  seats = grind (arith, common_steps);
-  ends = grind (arith, common_steps);
-  receipts = grind (arith, common_steps);
-  doors_len = grind (arith, common_steps);
-  seats_len = grind (arith, common_steps);
-  ends_len = grind (arith, common_steps);
-  receipts_len = grind (arith, common_steps);
-  doors_room = grind (arith, common_steps);
-  seats_room = grind (arith, common_steps);
-  ends_room = grind (arith, common_steps);
-  receipts_room = grind (arith, common_steps);
-}
+loop-caller-preserved g c = grind (arith, common_steps) steps 8000000
 
 pub loop-caller-init-derived : goal.loop-caller-init-derived
 loop-caller-init-derived g c = grind (arith, common_steps)
+
+pub push_reserved-requires-in-loop-caller-3 : goal.push_reserved-requires-in-loop-caller-3
+push_reserved-requires-in-loop-caller-3 g c =
+    let l = c.loop-caller.invariant in
+    room_for_one c.loop-caller.yielded _ c.args.callers.items _ c.in-Some.caller _ _ l.rest c.in-Some.ensures.steps.0 l.receipts_len l.receipts_room
+
+pub push_reserved-requires-in-loop-caller-2 : goal.push_reserved-requires-in-loop-caller-2
+push_reserved-requires-in-loop-caller-2 g c =
+    let l = c.loop-caller.invariant in
+    room_for_one c.loop-caller.yielded _ c.args.callers.items _ c.in-Some.caller _ _ l.rest c.in-Some.ensures.steps.0 l.ends_len l.ends_room
+
+pub returns-clause-room : goal.returns-clause-room
+returns-clause-room g c = grind (arith, common_steps)

@@ -1,4 +1,5 @@
-use Rattle.std.proofs.Common.{◌∙◌, Option, ap, sym}
+use Rattle.std.proofs.lemmas.Grind.{common_steps}
+use Rattle.std.proofs.Common.{◌∙◌, Option, ap, sym, arith}
 use Rattle.tas_movie.specs.Content.{MovieContent}
 use Rattle.tas_tool.specs.Talk.{talk_state_from}
 use Rattle.tas_tool.specs.Inside.Alone.{SeesOwn}
@@ -14,3 +15,6 @@ pub returns-clause-fault : goal.returns-clause-fault
 returns-clause-fault g c =
     head_faults (talk_state_from c.args.movie) c.in-Some.movie (g.J.Write.contents c.args.file) g.J.Write.contents c.write_head-2.result
     (sym (ap (λ (m : Option MovieContent). (talk_state_from m).state.stands.movie) c.in-Some.is)) c.write_head-2.ensures.fault (SeesOwn c.put_movie.new.seat)
+
+pub returns-in-Err-clause-fault : goal.returns-in-Err-clause-fault
+returns-in-Err-clause-fault g c = grind (arith, common_steps)

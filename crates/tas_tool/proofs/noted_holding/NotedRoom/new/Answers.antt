@@ -13,3 +13,6 @@ returns-clause-seats g c = grind (arith, common_steps)
 
 pub returns-clause-receipts : goal.returns-clause-receipts
 returns-clause-receipts g c = grind (arith, common_steps)
+
+pub returns-clause-doors : goal.returns-clause-doors
+returns-clause-doors g c = grind (arith, common_steps)
