@@ -24,7 +24,7 @@ use Rattle.tas_words.specs.declared.task.Task.{Task}
 use Rattle.tas_words.specs.declared.task.Task.TheVariants.{Trace, Check, Migrate, New, Recover, Search, Verify, Shot, Film, Export, Ram, Digest, Compare, Lag, Edit, Cut, Diff, Script, Talk, Desk}
 use Rattle.tas_program.specs.declared.saving.SaveFault.{SaveFault}
 use Rattle.tas_program.specs.declared.status.TaskFault.{TaskFault}
-use Rattle.tas_program.specs.declared.status.TaskFault.TheVariants.{Tool, Image as NotKept, Report, NoReport, Save as NotSaved}
+use Rattle.tas_program.specs.declared.status.TaskFault.TheVariants.{Tool, Report, NoReport, Save as NotSaved}
 use Rattle.tas_program.specs.declared.searching.Reported.{Reported}
 use Rattle.tas_program.specs.declared.searching.Reported.TheVariants as reported
 use Rattle.tas_journal.specs.declared.fault.RecoveryFault.{RecoveryFault}
