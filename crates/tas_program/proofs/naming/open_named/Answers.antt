@@ -1,4 +1,4 @@
-use Rattle.std.proofs.Common.{Err, IfErr, ap, arith, inl, inr, length, map, refl, subst, sym, ◌∙◌}
+use Rattle.std.proofs.Common.{Err, IfErr, ap, arith, inl, length, map, subst, sym, ◌∙◌}
 use Rattle.std.proofs.lemmas.Result.{err_from_is_err_and}
 use lib.Seq.{take_all}
 use Rattle.tas_program.specs.Naming.{IsUnopened}
