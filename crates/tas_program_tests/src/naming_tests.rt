@@ -126,12 +126,7 @@ const CUT: &[u8] = b"a26movie 1\n";
 
 /// Texts of which the first, the second or both are at fault; the line names the first one that is, unless it is on standard input.
 static TEXTS: [Refused<'static>; 16] = [
-    (
-        COMPARE,
-        CUT,
-        ONE_FRAME,
-        b"fault: old movie line 2: end\n",
-    ),
+    (COMPARE, CUT, ONE_FRAME, b"fault: old movie line 2: end\n"),
     (COMPARE, CUT, b"", b"fault: old movie line 2: end\n"),
     (COMPARE, ONE_FRAME, CUT, b"fault: movie line 2: end\n"),
     (DIFF, CUT, ONE_FRAME, b"fault: old movie line 2: end\n"),
@@ -209,10 +204,18 @@ fn inputs_that_are_too_long_are_named(rt: HostRuntime) {
     let rows: [(&[&str], TwoFiles<'_>, &[u8]); 6] = [
         (DIFF, all_long, b"fault: cartridge: input is too long\n"),
         (DIFF, other_long, b"fault: old movie: input is too long\n"),
-        (COMPARE, other_long, b"fault: old movie: input is too long\n"),
+        (
+            COMPARE,
+            other_long,
+            b"fault: old movie: input is too long\n",
+        ),
         (EDIT_WITH, other_long, b"fault: script: input is too long\n"),
         (DIFF, no_file_long, b"fault: movie: input is too long\n"),
-        (EDIT_WITH, no_file_long, b"fault: movie: input is too long\n"),
+        (
+            EDIT_WITH,
+            no_file_long,
+            b"fault: movie: input is too long\n",
+        ),
     ];
     for row in rows.iter() {
         let (words, folder, line) = *row;
