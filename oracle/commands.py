@@ -228,11 +228,12 @@ class Run:
         """The movie of a journal of any length; the report goes to standard error, and the cartridge to a file."""
         if image not in (None, KEPT):
             raise Open("a cartridge's file that may be there")
-        cart, = self.inputs.read([cart], False)
-        cart, frames, report = journals.recovered(self.inputs.stream, sized(cart), until)
+        began, = self.inputs.read([cart], False)
+        cart, frames, report = journals.recovered(self.inputs.stream, sized(began), until)
         self.errors = report.encode()
         self.kept = cart if image is not None else None
         self.seen["recover: a cut line"] += "cut" in report
+        self.seen["recover: a loaded cartridge is kept"] += image is not None and cart != began
         return hands.movie_text(cart, frames)
 
     def search(self, cart, start, frames, goal, choices=None, names=None, hold=1, first=searches.WHOLE, most=MOST_STATES, **_workers):
