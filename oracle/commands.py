@@ -9,6 +9,7 @@ from hashlib import sha256
 
 import drafts
 import journals
+import looks
 import machine
 import manifests
 import readings
@@ -25,12 +26,12 @@ FORMS = {
     "check": "c", "migrate": "c", "edit": "cf", "cut": "cnn", "diff": "cm", "script": "", "talk": "|cm", "shot": "cn", "film": "c|nn", "export": "cnnw", "ram": "cnn",
     "digest": "c|e", "compare": "cm", "lag": "c", "trace": "t", "new": "cl", "recover": "c", "search": "cnlg", "verify": "", "desk": "cmff|ffffffffffffff"}
 NUMBERS = {"n": (0, 9999999), "w": (1, 16), "e": (1, MOST), "l": (0, MOST), "s": (1, 9999999), "t": (0, 1000000), "j": (1, 4294967295)}
-FLAGS = {"edit": ("--with",), "talk": ("--journal",), "desk": ("--journal",), "recover": ("--until", "--cart"), "search": ("--choices", "--names", "--hold", "--first", "--most", "--workers"), "verify": ("--carts", "--workers"), "script": ("--cart", "--movie")}
+FLAGS = {"edit": ("--with",), "ram": ("--names",), "talk": ("--journal",), "desk": ("--journal",), "recover": ("--until", "--cart"), "search": ("--choices", "--names", "--hold", "--first", "--most", "--workers"), "verify": ("--carts", "--workers"), "script": ("--cart", "--movie")}
 KEPT = "day"  # the file of a conversation's journal, or of a recovery's cartridge
 FLAG_NUMBERS = {"--hold": "e", "--most": "s", "--workers": "w", "--until": "j"}
 NUMBER = re.compile(r"\+?0*([0-9]{1,10})")
 # What the files of a command are to it, where its faults name them; the stream is its movie.
-ROLES = {"ram": ["cartridge"], "digest": ["cartridge"], "lag": ["cartridge"], "cut": ["cartridge"], "compare": ["cartridge", "old movie"], "diff": ["cartridge", "old movie"],
+ROLES = {"ram": ["cartridge", "names"], "digest": ["cartridge"], "lag": ["cartridge"], "cut": ["cartridge"], "compare": ["cartridge", "old movie"], "diff": ["cartridge", "old movie"],
          "edit": ["cartridge", "script", "other movie"]}
 PART, MOST_PARTS = re.compile(r"([1-9][0-9]{0,6})/([1-9][0-9]{0,6})"), 1000000
 
@@ -42,6 +43,14 @@ FOR_PEOPLE = Wanted(None, b"", 0)
 
 class Wrong(Exception):
     """The words are wrong."""
+
+
+class PowerOn:
+    """A movie of which nothing is played."""
+
+    @staticmethod
+    def ram_after(_count):
+        return bytes(128)
 
 
 # ---- words
@@ -397,13 +406,14 @@ class Run:
         within(first, last, min(len(frames), first + 1024), len(frames))
         return self.drawn(cart, first, last, "halted at ")
 
-    def ram(self, cart, first, last):
-        cart, frames = self.movie(cart)
+    def ram(self, cart, first, last, names=None):
+        cart, *texts, movie = self.inputs.read([cart] + ([] if names is None else [names]))
+        frames = readings.read_movie(movie, sized(cart))
+        names = None if names is None else searches.read_names(texts[0])
         within(first, last, len(frames) + 1, len(frames))
-        if first == last:
-            return b""
-        ram_after = self.played(cart, last).ram_after if last > 1 else lambda _: bytes(128)
-        return "".join("%d %s\n" % (count, ram_after(count).hex().upper()) for count in range(first, last)).encode()
+        played = self.played(cart, last) if last > max(first, 1) else PowerOn
+        self.seen["ram: a table of several names"] += names is not None and len(names) > 1 and last > first
+        return looks.ram_lines(played, first, last) if names is None else looks.table_lines(played, names, first, last)
 
     def digest(self, cart, every=None):
         cart, frames = self.movie(cart)

@@ -66,6 +66,12 @@ def ram_lines(played, first, last):
     return "".join("%d %s\n" % (k, played.ram_after(k).hex().upper()) for k in range(first, last)).encode()
 
 
+def table_lines(played, names, first, last):
+    """The bytes of RAM with these names, in columns."""
+    rows = [["frames played", *names]] + [[k, *(played.ram_after(k)[address - 0x80] for address in names.values())] for k in range(first, last)]
+    return "".join(",".join(map(str, row)) + "\n" for row in rows).encode()
+
+
 def digest_lines(played, every):
     """Where no frame is halted."""
     text = cartridges.movie_text(played.cartridge, played.inputs).encode()

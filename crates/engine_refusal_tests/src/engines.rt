@@ -24,6 +24,7 @@ pub enum Engine {
     Shot,
     Film,
     Ram,
+    RamTable,
     Digest,
     Compare,
     Lag,
@@ -52,6 +53,7 @@ pub enum Part {
     Replaced,
     Changes,
     ChangesWith,
+    Names,
     Script,
     Talk,
     /// It has no such input.
@@ -71,7 +73,7 @@ const TWO_MOVIES: Parts = [Part::Cart, Part::Old, Part::New, Part::Nothing];
 pub type Row = (Engine, Parts, (u64, u64));
 
 /// All engines. `growth_tests` says where the growths are.
-pub static ENGINES: [Row; 23] = [
+pub static ENGINES: [Row; 24] = [
     (Engine::Trace, CART, (3, 0)),
     (Engine::Check, MOVIE, (8, 0)),
     (Engine::Migrate, MOVIE, (7, 0)),
@@ -79,6 +81,11 @@ pub static ENGINES: [Row; 23] = [
     (Engine::Shot, MOVIE, (7, 0)),
     (Engine::Film, MOVIE, (7, 0)),
     (Engine::Ram, MOVIE, (6, 0)),
+    (
+        Engine::RamTable,
+        [Part::Cart, Part::Names, Part::Old, Part::Nothing],
+        (13, 0),
+    ),
     (Engine::Digest, MOVIE, (16, 0)),
     (Engine::Compare, TWO_MOVIES, (17, 0)),
     (Engine::Lag, MOVIE, (7, 0)),
@@ -146,6 +153,7 @@ impl Part {
             Part::Replaced => all.replaced.as_slice(),
             Part::Changes => all.changes.as_slice(),
             Part::ChangesWith => all.changes_with.as_slice(),
+            Part::Names => all.names.as_slice(),
             Part::Script => all.script.as_slice(),
             Part::Talk => all.talk.as_slice(),
             Part::Nothing => all.none.as_slice(),
@@ -261,6 +269,11 @@ pub fn run<T: Wait + Threads + Sync, A: Allocator + Copy + Send + Sync, W: Write
         Engine::Ram => {
             let command = commands::Ram { from: 1, to: 4 };
             run_command(alloc, &command, &mut [first], second, output)
+        }
+        Engine::RamTable => {
+            let mut files = [first, second];
+            let command = commands::RamTable { from: 1, to: 4 };
+            run_command(alloc, &command, &mut files, third, output)
         }
         Engine::Digest => {
             let command = Whole(commands::Digest { every: 2 });

@@ -151,7 +151,8 @@ fn check_engine<T: Wait + Threads + Sync + Abort>(rt: &T, alloc: Global, row: Ro
 ///
 /// - `Trace`: an input and a cartridge. `Check`, `Migrate`, `Shot`: two inputs, a cartridge and a movie, and two of a line, a text
 ///   or a picture. `Film`: the same, and the room for a pixmap. `New`: an input, a cartridge, a movie, its frames and a text.
-/// - `Ram`: two inputs, a cartridge and a movie; the lines take none.
+/// - `Ram`: two inputs, a cartridge and a movie; the lines take none. `RamTable`: an input more, two names and their list, 2 of the head, and the
+///   room of a line.
 /// - `Digest`: those, the movie's text, 4 of the first lines (room for 22 bytes, then for 44, 91 and 182), a picture, room for its pixmap and 2 of the lines of the two stretches.
 /// - `Compare`: three inputs, a cartridge and a movie twice, two pictures with room for their pixmaps, and 3 of the lines.
 /// - `Lag`: two inputs, a cartridge and a movie, and 1 of the line of its one stretch. `Cut`: as `Lag`, with 1 of the text.

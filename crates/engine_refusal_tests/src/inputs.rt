@@ -7,8 +7,8 @@ use std::process::Abort;
 use tas_movie::print_text;
 use vcs_machine::Input;
 
-/// The bytes of a cartridge, of the texts of three movies of it, of changes of the first, without and with the second, of a script of edits and looks, and
-/// of a conversation that has these lines and others; and none.
+/// The bytes of a cartridge, of the texts of three movies of it, of changes of the first, without and with the second, of names, of a script of edits and
+/// looks, and of a conversation that has these lines and others; and none.
 #[derive(Drop)]
 pub struct Bytes {
     pub cart: Vec<u8>,
@@ -19,6 +19,7 @@ pub struct Bytes {
     pub replaced: Vec<u8>,
     pub changes: Vec<u8>,
     pub changes_with: Vec<u8>,
+    pub names: Vec<u8>,
     pub script: Vec<u8>,
     pub talk: Vec<u8>,
     pub none: Vec<u8>,
@@ -29,6 +30,9 @@ const CHANGES: &[u8] = b"delete 0 1\ninsert 0 3 R.... ..... .....\nreplace 1 2 .
 
 /// Three changes, of which one takes frames from a second movie.
 const CHANGES_WITH: &[u8] = b"delete 0 1\ncopy other 0 2 1\npress 0 1 ....F ..... .....\n";
+
+/// Names of two bytes.
+const NAMES: &[u8] = b"x 80\ny 81\n";
 
 /// Nine lines on a movie, each kind of edit among them.
 const SCRIPT: &[u8] =
@@ -57,6 +61,7 @@ pub fn make_inputs<R: Abort>(rt: &R, alloc: Global) -> Bytes {
         cart: copy_of(rt, alloc, &brief_image()),
         changes: copy_of(rt, alloc, CHANGES),
         changes_with: copy_of(rt, alloc, CHANGES_WITH),
+        names: copy_of(rt, alloc, NAMES),
         script: copy_of(rt, alloc, SCRIPT),
         talk: copy_of(rt, alloc, TALK),
         none: Vec::new(alloc),

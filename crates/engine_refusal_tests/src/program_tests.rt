@@ -167,17 +167,23 @@ fn count_refused<T: Wait + Threads + Clock + Abort + Sync>(
 ///
 /// A text of clap's, or that the words aren't text, has one growth, and a task those of its engine: `trace` 3, `check` 9 with the list of its
 /// files, `shot` 7 before it misses the frame, `search` 17 with the list of its files where the start meets the goal, and 20 with files of
-/// choices and names and a report, `edit` 9, and with `-o`
+/// choices and names and a report, `ram` 13 with a file of one name, `edit` 9, and with `-o`
 /// three more for the text that is held and the name of the new file, `export` by one worker 34 and by two 36. The list of words has one, for
 /// all of them, and where it is refused asks for less; so do the digits of a search's number of sequences. A fault's line of 23 bytes has
 /// three, its room and twice more of it; where they are refused it goes out in pieces.
-static RUNS: [(&[&str], bool, u64, u64); 12] = [
+static RUNS: [(&[&str], bool, u64, u64); 13] = [
     (&[], false, 1, 0),
     (&["tas", "play"], false, 1, 1),
     (&["tas", "--version"], false, 1, 1),
     (&["tas", "trace", "3"], true, 3, 1),
     (&["tas", "check", "game.bin"], false, 9, 1),
     (&["tas", "shot", "game.bin", "9"], false, 7, 4),
+    (
+        &["tas", "ram", "game.bin", "1", "4", "--names", "names"],
+        false,
+        13,
+        1,
+    ),
     (&["tas", "edit", "game.bin", "fix.script"], false, 9, 1),
     (
         &["tas", "edit", "game.bin", "fix.script", "-o", "new"],

@@ -8,6 +8,7 @@ use std::io::ErrorKind;
 use std::process::Abort;
 use std::sync::Wait;
 use std::thread::Threads;
+use tas_engines::NamesFaultKind;
 use tas_movie::{TextError, TextErrorKind};
 use tas_tool::{ReadFault, RunFault, ToolFault};
 
@@ -162,13 +163,18 @@ fn cut_short(bytes: &[u8]) -> &[u8] {
     &bytes[..bytes.len().saturating_sub(1)]
 }
 
-/// What is wrong with an input without its last byte: a cartridge, a script's ninth line, the third line of changes or of a movie's text.
+/// What is wrong with an input without its last byte: a cartridge, a script's ninth line, the third line of changes or of a movie's text, the second
+/// line of names.
 fn early_end(engine: Engine, input: usize) -> ToolFault {
     match (engine, input) {
         (Engine::Script, _) | (Engine::MovieScript, 2) => ToolFault::Run(RunFault::Script {
             line: 9,
         }),
         (Engine::Edit | Engine::EditWith, 1) => ToolFault::Run(RunFault::Script { line: 3 }),
+        (Engine::RamTable, 1) => ToolFault::Run(RunFault::Names {
+            line: 2,
+            kind: NamesFaultKind::End,
+        }),
         (_, 0) => ToolFault::Run(RunFault::Size(4095)),
         _ => ToolFault::Run(RunFault::Text(TextError {
             line: 3,

@@ -3,7 +3,7 @@
 use crate::checks::{check_same, expect_ok};
 use std::alloc::Global;
 use std::process::Abort;
-use tas_engines::{ReadFault, RunFault, SeatFault, ToolFault};
+use tas_engines::{NamesFaultKind, ReadFault, RunFault, SeatFault, ToolFault};
 use tas_movie::{TextError, TextErrorKind};
 
 /// Fails where a fault is told by another line.
@@ -13,7 +13,7 @@ fn check_line<R: Abort>(rt: &R, alloc: Global, fault: ToolFault, line: &str) {
 }
 
 /// Faults, and the line that tells each.
-static LINES: [(ToolFault, &str); 13] = [
+static LINES: [(ToolFault, &str); 17] = [
     (
         ToolFault::Read(ReadFault::TooLong),
         "fault: input is too long",
@@ -56,6 +56,34 @@ static LINES: [(ToolFault, &str); 13] = [
     (
         ToolFault::Run(RunFault::Script { line: 12 }),
         "fault: script line 12",
+    ),
+    (
+        ToolFault::Run(RunFault::Names {
+            line: 1,
+            kind: NamesFaultKind::End,
+        }),
+        "fault: names line 1: end",
+    ),
+    (
+        ToolFault::Run(RunFault::Names {
+            line: 3,
+            kind: NamesFaultKind::Space,
+        }),
+        "fault: names line 3: space",
+    ),
+    (
+        ToolFault::Run(RunFault::Names {
+            line: 12,
+            kind: NamesFaultKind::Address,
+        }),
+        "fault: names line 12: address",
+    ),
+    (
+        ToolFault::Run(RunFault::Names {
+            line: 2,
+            kind: NamesFaultKind::Name,
+        }),
+        "fault: names line 2: name",
     ),
     (ToolFault::Run(RunFault::NoPlace), "fault: no place"),
     (ToolFault::Run(RunFault::NoEntry), "fault: no entry"),

@@ -29,3 +29,5 @@ mod retouch_tests;
 mod script_tests;
 #[cfg(test)]
 mod shot_tests;
+#[cfg(test)]
+mod table_tests;

@@ -14,10 +14,10 @@ use tas_movie::{TextError, TextErrorKind};
 use test_streams::{Failure, Room, Taker};
 
 /// Counts in RAM, and keeps the sticks' pins there and in the background's colour: INC 80, LDA 280, STA 81, STA COLUBK, JMP F000.
-const COUNTS: &[u8] = b"\xe6\x80\xad\x80\x02\x85\x81\x85\x09\x4c\x00\xf0";
+pub const COUNTS: &[u8] = b"\xe6\x80\xad\x80\x02\x85\x81\x85\x09\x4c\x00\xf0";
 
 /// The SHA-256 of its cartridge.
-const COUNTS_DIGEST: &str = "6707df007cd9f49721b2a8942c02ead96586dd0aa6e2c8ad328dbe2deba4e585";
+pub const COUNTS_DIGEST: &str = "6707df007cd9f49721b2a8942c02ead96586dd0aa6e2c8ad328dbe2deba4e585";
 
 /// Shows the sticks' pins as the background's colour, and writes no RAM: LDA 280, STA COLUBK, JMP F000.
 const PAINTS: &[u8] = b"\xad\x80\x02\x85\x09\x4c\x00\xf0";
@@ -26,10 +26,10 @@ const PAINTS: &[u8] = b"\xad\x80\x02\x85\x09\x4c\x00\xf0";
 const PAINTS_DIGEST: &str = "964b3b4c8f2dd3a81081d624b60c17394f36b80f5d2e98a96425d2928c9e33b6";
 
 /// Counts in RAM, and halts at F007 where the left stick is held right: INC 80, LDA 280, BMI F008, 02, JMP F000.
-const STOPS: &[u8] = b"\xe6\x80\xad\x80\x02\x30\x01\x02\x4c\x00\xf0";
+pub const STOPS: &[u8] = b"\xe6\x80\xad\x80\x02\x30\x01\x02\x4c\x00\xf0";
 
 /// The SHA-256 of its cartridge.
-const STOPS_DIGEST: &str = "d6e713bc50ccd20c6a27ef22630c568c760c7b130a7c788917dfd741c815fee0";
+pub const STOPS_DIGEST: &str = "d6e713bc50ccd20c6a27ef22630c568c760c7b130a7c788917dfd741c815fee0";
 
 /// A cartridge and the digest of its image.
 type Game = (&'static [u8], &'static str);

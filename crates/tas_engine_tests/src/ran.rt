@@ -42,6 +42,8 @@ pub enum FileEngine {
     /// The file is the older movie's text, here and at the next one.
     Diff,
     Compare,
+    /// The file has names; from one number of frames to the one before another.
+    RamTable(usize, usize),
 }
 
 /// What an engine wrote, and how it ended.
@@ -127,6 +129,9 @@ pub fn run_beside_to<F: Read, T: Read, W: Write>(
         }
         FileEngine::Diff => run_command(alloc, &Whole(commands::Diff), files, text, output),
         FileEngine::Compare => run_command(alloc, &Whole(commands::Compare), files, text, output),
+        FileEngine::RamTable(from, to) => {
+            run_command(alloc, &commands::RamTable { from, to }, files, text, output)
+        }
     }
 }
 

@@ -19,3 +19,6 @@ pub mod PassingLemmas
 pub mod CompareLemmas
 pub mod DigestLemmas
 pub mod RemarkLemmas
+pub mod NameLemmas
+pub mod RamLemmas
+pub mod TableLemmas

@@ -5,7 +5,7 @@ use Rattle.vcs_inputs.specs.Cart.{is_cart_size}
 use Rattle.tas_movie.specs.Content.{MovieContent}
 use Rattle.tas_movie.proofs.TwoTexts.{one_movie, read_no_error}
 use Rattle.tas_engines.specs.declared.fault.RunFault.{RunFault}
-use Rattle.tas_engines.specs.declared.fault.RunFault.TheVariants.{Write, Size, Text, NoFrame, Range, Halted, HaltedFrame, Script, Place, Long, NoPlace, NoEntry, Foreign, Memory}
+use Rattle.tas_engines.specs.declared.fault.RunFault.TheVariants.{Write, Size, Text, NoFrame, Range, Halted, HaltedFrame, Script, Place, Long, Names as NoNames, NoPlace, NoEntry, Foreign, Memory}
 use Rattle.tas_engines.specs.Movies.{IsMovieOf, IsMovieFault}
 
 pub one_movie_read : (image bytes : List ℕ) (a b : MovieContent) → IsMovieOf image bytes a → IsMovieOf image bytes b → a ≡ b
@@ -18,6 +18,7 @@ only_memory image bytes movie Memory is why = refl
 only_memory image bytes movie (Write written) is why = absurd why
 only_memory image bytes movie (NoFrame frame len) is why = absurd why
 only_memory image bytes movie (Range from to len) is why = absurd why
+only_memory image bytes movie (NoNames row kind) is why = absurd why
 only_memory image bytes movie (Halted at opcode) is why = absurd why
 only_memory image bytes movie (HaltedFrame frame at opcode) is why = absurd why
 only_memory image bytes movie (Script line) is why = absurd why

@@ -4,8 +4,10 @@ use Rattle.vcs_inputs.specs.declared.cart.CartError.{CartError}
 use Rattle.vcs_inputs.specs.declared.cart.CartError.TheVariants as cart
 use Rattle.tas_movie.specs.declared.error.ReadError.{ReadError}
 use Rattle.tas_movie.specs.declared.error.ReadError.TheVariants as text
+use Rattle.tas_engines.specs.declared.names.NamesError.{NamesError}
+use Rattle.tas_engines.specs.declared.names.NamesError.TheVariants as names
 use Rattle.tas_engines.specs.declared.fault.RunFault.{RunFault}
-use Rattle.tas_engines.specs.declared.fault.RunFault.TheVariants.{Size, Text, Memory}
+use Rattle.tas_engines.specs.declared.fault.RunFault.TheVariants.{Size, Text, Names, Memory}
 use Rattle.tas_engines.specs.declared.fault.ToolFault.{ToolFault}
 use Rattle.tas_engines.specs.declared.fault.ToolFault.TheVariants.{Run}
 
@@ -18,6 +20,11 @@ cart_fault cart.Memory = Memory
 abbrev pub text_fault : ReadError → RunFault
 text_fault (text.Text error) = Text error
 text_fault text.Memory = Memory
+
+-- why a text was no names file
+abbrev pub names_fault : NamesError → RunFault
+names_fault (names.Line line kind) = Names line kind
+names_fault names.Memory = Memory
 
 -- how an engine ends that has read its inputs
 abbrev pub reported : Result (Unit {0}) RunFault → Result (Unit {0}) ToolFault

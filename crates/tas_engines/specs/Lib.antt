@@ -15,9 +15,13 @@ pub mod Scripts
 pub mod Editing
 pub mod Cutting
 pub mod Diffing
+pub mod Names
+pub mod NamesFile
 pub mod Ram
+pub mod RamTable
 pub mod Lag
 pub mod Digests
 pub mod Comparing
 pub mod Remarks
 pub mod Starting
+pub mod Inside

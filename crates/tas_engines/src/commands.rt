@@ -22,6 +22,7 @@ pub use crate::editing::{Edit, EditWith};
 pub use crate::lag::Lag;
 pub use crate::migrating::Migrate;
 pub use crate::ram::Ram;
+pub use crate::ram_table::RamTable;
 use crate::reading::{read_all, read_onto};
 pub use crate::shooting::Shot;
 pub use crate::starting::New;

@@ -9,9 +9,10 @@
 ghost use Rattle.std.specs.Prelude.{◌≡◌};
 ghost use Rattle.tas_engines.specs.declared.fault.RunFault.TheVariants.{Write as WriteFailed, Memory as Refused};
 ghost use Rattle.tas_engines.specs.declared.fault.ToolFault.TheVariants.{Read as Unread, Run as Ran};
-ghost use Rattle.tas_engines.specs.Faults.{cart_fault, text_fault};
+ghost use Rattle.tas_engines.specs.Faults.{cart_fault, names_fault, text_fault};
 
 use crate::fault_lines::{halted_frame_line, halted_line, no_frame_line, range_line, seat_line};
+use crate::{NamesError, NamesFaultKind};
 use byte_text::WriteFault;
 use std::alloc::AllocError;
 use tas_movie::{ReadError, TextError};
@@ -105,6 +106,14 @@ pub enum RunFault {
         /// The line's number, counted from 1.
         line: usize,
     },
+    /// A line of a names file is at fault, the first one. Nothing was written.
+    #[error("names line {line}: {kind}")]
+    Names {
+        /// The line's number, counted from 1.
+        line: usize,
+        /// What is wrong with it.
+        kind: NamesFaultKind,
+    },
     /// A desk's seat got no place to read from. Nothing was written.
     #[error("no place")]
     NoPlace,
@@ -186,6 +195,18 @@ impl From<ReadError> for RunFault {
         match error {
             ReadError::Text(error) => RunFault::Text(error),
             ReadError::Memory => RunFault::Memory,
+        }
+    }
+}
+
+impl From<NamesError> for RunFault {
+    ghost from_gives = { λ error fault. fault ≡ names_fault error };
+
+    // Refused: names_fault_is_reported_at_line_1.
+    fn from(error: NamesError) -> RunFault {
+        match error {
+            NamesError::Line { line, kind } => RunFault::Names { line, kind },
+            NamesError::Memory => RunFault::Memory,
         }
     }
 }

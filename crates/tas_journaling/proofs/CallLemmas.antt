@@ -8,7 +8,7 @@ use Rattle.tas_published.proofs.PrefixLemmas.{prefix_trans}
 use Rattle.tas_desk.specs.Seats.{SeatContent, KeepsZone, IsSettled}
 use Rattle.tas_desk.proofs.SeatLemmas.{entries_of-prefix}
 use Rattle.tas_engines.specs.declared.fault.ReadFault.TheVariants.{Failed, TooLong, Memory as NoRoom}
-use Rattle.tas_engines.specs.declared.fault.RunFault.TheVariants.{Write, Size, Text, NoFrame, Range, Halted, HaltedFrame, Script, Place, Long, NoPlace, NoEntry, Foreign, Memory}
+use Rattle.tas_engines.specs.declared.fault.RunFault.TheVariants.{Write, Size, Text, NoFrame, Range, Halted, HaltedFrame, Script, Place, Long, Names as NoNames, NoPlace, NoEntry, Foreign, Memory}
 use Rattle.tas_engines.specs.declared.fault.ToolFault.{ToolFault}
 use Rattle.tas_engines.specs.declared.fault.ToolFault.TheVariants.{Read, Run, Seat}
 use Rattle.tas_engines.specs.declared.fault.SeatFault.TheVariants.{NotOpened, Foreign as ForeignSeat}
@@ -129,6 +129,7 @@ not_foreign seat last rest told more input output output' (Err (Tool (Run (Size 
 not_foreign seat last rest told more input output output' (Err (Tool (Run (Text error)))) ends other e = ends
 not_foreign seat last rest told more input output output' (Err (Tool (Run (NoFrame frame len)))) ends other e = ends
 not_foreign seat last rest told more input output output' (Err (Tool (Run (Range from to len)))) ends other e = ends
+not_foreign seat last rest told more input output output' (Err (Tool (Run (NoNames row kind)))) ends other e = ends
 not_foreign seat last rest told more input output output' (Err (Tool (Run (Halted at opcode)))) ends other e = ends
 not_foreign seat last rest told more input output output' (Err (Tool (Run (HaltedFrame frame at opcode)))) ends other e = ends
 not_foreign seat last rest told more input output output' (Err (Tool (Run (Script number)))) ends other e = ends
@@ -248,6 +249,7 @@ answered_noted {A} first start last given given' held held' edits answered ended
     go (Err (Tool (Run (Text error)))) ends is = upto is
     go (Err (Tool (Run (NoFrame frame len)))) ends is = upto is
     go (Err (Tool (Run (Range from to len)))) ends is = upto is
+    go (Err (Tool (Run (NoNames row kind)))) ends is = upto is
     go (Err (Tool (Run (Halted at opcode)))) ends is = upto is
     go (Err (Tool (Run (HaltedFrame frame at opcode)))) ends is = upto is
     go (Err (Tool (Run (Script number)))) ends is = upto is

@@ -13,7 +13,7 @@ use Rattle.tas_movie.specs.declared.edit.Edit.{Edit}
 use Rattle.tas_published.proofs.PrefixLemmas.{prefix_self, prefix_trans}
 use Rattle.tas_desk.specs.Seats.{SeatContent, KeepsZone}
 use Rattle.tas_engines.specs.declared.fault.RunFault.{RunFault}
-use Rattle.tas_engines.specs.declared.fault.RunFault.TheVariants.{Write, Size, Text, NoFrame as OffMovie, Range as OffRange, Halted as Stopped, HaltedFrame as StoppedFrame, Script, Place, Long, NoPlace, NoEntry, Foreign, Memory}
+use Rattle.tas_engines.specs.declared.fault.RunFault.TheVariants.{Write, Size, Text, NoFrame as OffMovie, Range as OffRange, Halted as Stopped, HaltedFrame as StoppedFrame, Script, Place, Long, Names as NoNames, NoPlace, NoEntry, Foreign, Memory}
 use Rattle.tas_engines.specs.declared.fault.ToolFault.{ToolFault}
 use Rattle.tas_engines.specs.declared.fault.ToolFault.TheVariants.{Read, Run, Seat}
 use Rattle.tas_engines.specs.declared.fault.ReadFault.TheVariants.{Failed}
@@ -109,6 +109,7 @@ talk_broken {A} {J} {notes} laws before now old new said told output output' req
     kept (Text error) was = same
     kept (OffMovie frame len) was = same
     kept (OffRange from to len) was = same
+    kept (NoNames row kind) was = same
     kept (Stopped at opcode) was = same
     kept (StoppedFrame frame at opcode) was = same
     kept (Script number) was = same
@@ -305,6 +306,7 @@ broken_ends {A} now left_at rest told edits written input output output' output'
     go (Text error) b = absurd b
     go (OffMovie frame len) b = absurd b
     go (OffRange from to len) b = absurd b
+    go (NoNames row kind) b = absurd b
     go (Stopped at opcode) b = absurd b
     go (StoppedFrame frame at opcode) b = absurd b
     go (Script number) b = absurd b
@@ -324,6 +326,7 @@ breaks_end notes laws head before now old new (Size n) all more noted = laws.res
 breaks_end notes laws head before now old new (Text error) all more noted = laws.rests_on head before now old new all more noted
 breaks_end notes laws head before now old new (OffMovie frame len) all more noted = laws.rests_on head before now old new all more noted
 breaks_end notes laws head before now old new (OffRange from to len) all more noted = laws.rests_on head before now old new all more noted
+breaks_end notes laws head before now old new (NoNames row kind) all more noted = laws.rests_on head before now old new all more noted
 breaks_end notes laws head before now old new (Stopped at opcode) all more noted = laws.rests_on head before now old new all more noted
 breaks_end notes laws head before now old new (StoppedFrame frame at opcode) all more noted = laws.rests_on head before now old new all more noted
 breaks_end notes laws head before now old new (Script number) all more noted = laws.rests_on head before now old new all more noted

@@ -9,7 +9,7 @@ use Rattle.tas_movie.proofs.TwoTexts.{text_right}
 use Rattle.tas_engines.specs.declared.fault.ReadFault.{ReadFault}
 use Rattle.tas_engines.specs.declared.fault.ReadFault.TheVariants.{TooLong, Failed, Memory as NoMemory}
 use Rattle.tas_engines.specs.declared.fault.RunFault.{RunFault}
-use Rattle.tas_engines.specs.declared.fault.RunFault.TheVariants.{Write, Size, Text, NoFrame, Range, Halted, HaltedFrame, Script, Place, Long, NoPlace, NoEntry, Foreign, Memory}
+use Rattle.tas_engines.specs.declared.fault.RunFault.TheVariants.{Write, Size, Text, NoFrame, Range, Halted, HaltedFrame, Script, Place, Long, Names, NoPlace, NoEntry, Foreign, Memory}
 use Rattle.tas_engines.specs.declared.fault.ToolFault.TheVariants.{Run}
 use Rattle.tas_engines.specs.Commands.{Answers, bytes_of}
 use Rattle.tas_engines.specs.Input.{AreReadWhole}
@@ -105,6 +105,7 @@ text_of_is (HaltedFrame frame at opcode) own is = cc
 text_of_is (Script line) own is = cc
 text_of_is (Place line) own is = cc
 text_of_is (Long line) own is = cc
+text_of_is (Names line kind) own is = cc
 text_of_is NoPlace own is = cc
 text_of_is NoEntry own is = cc
 text_of_is Foreign own is = cc

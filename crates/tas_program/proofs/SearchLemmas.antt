@@ -12,6 +12,7 @@ use Rattle.tas_engines.specs.Digests.{IsDigestAnswer}
 use Rattle.tas_engines.specs.Editing.{IsEditAnswer, IsEditWithAnswer}
 use Rattle.tas_engines.specs.Lag.{IsLagAnswer}
 use Rattle.tas_engines.specs.Ram.{IsRamAnswer}
+use Rattle.tas_engines.specs.RamTable.{IsTableAnswer}
 use Rattle.tas_engines.specs.declared.fault.ReadFault.TheVariants.{Failed, Memory}
 use Rattle.tas_engines.specs.declared.fault.ToolFault.{ToolFault}
 use Rattle.tas_engines.specs.declared.fault.ToolFault.TheVariants.{Read}
@@ -36,7 +37,7 @@ use Rattle.std.specs.Global.{Global as GlobalType}
 use Rattle.tas_program.specs.Reporting.{ReportedEnds, reported_of}
 use Rattle.tas_program.specs.Files.{FileBytes}
 use Rattle.tas_program.specs.Program.{DeskWordsEnd, DoesTask, EndsPlain, EngineEnds, LeavesWords, desk_of, talk_of, tool_end}
-use Rattle.tas_program.specs.declared.roles.Roles.TheVariants.{CartMovie, CartOldMovie, CartScriptMovie, CartScriptOtherMovie}
+use Rattle.tas_program.specs.declared.roles.Roles.TheVariants.{CartMovie, CartOldMovie, CartScriptMovie, CartScriptOtherMovie, CartNamesMovie}
 use Rattle.tas_program.proofs.NamingLemmas.{unsaved_named}
 use Rattle.tas_program.proofs.NotedLemmas.{no_desk_fault, no_talk_fault}
 use Rattle.tas_program.proofs.VerifyLemmas.{no_verify_fault}
@@ -170,7 +171,9 @@ no_task_fault files (Verify words) old new fault does = absurd does
 no_task_fault files (Shot cart k) old new fault does = no_plain_fault _ fault does
 no_task_fault files (Film cart from to) old new fault does = no_plain_fault _ fault does
 no_task_fault files (Export cart from to workers) old new fault does = no_plain_fault _ fault does
-no_task_fault files (Ram cart from to) old new fault does = unsaved_named CartMovie (files.read cart.now ∷ []) (OfTwo (IsRamAnswer from to)) old new fault does
+no_task_fault files (Ram cart from to None) old new fault does = unsaved_named CartMovie (files.read cart.now ∷ []) (OfTwo (IsRamAnswer from to)) old new fault does
+no_task_fault files (Ram cart from to (Some names)) old new fault does =
+    unsaved_named CartNamesMovie (files.read cart.now ∷ files.read names.now ∷ []) (OfThree (IsTableAnswer from to)) old new fault does
 no_task_fault files (Digest cart every) old new fault does = unsaved_named CartMovie (files.read cart.now ∷ []) (OfTwo (IsDigestAnswer (max every 1))) old new fault does
 no_task_fault files (Compare cart before) old new fault does = unsaved_named CartOldMovie (files.read cart.now ∷ files.read before.now ∷ []) (OfThree IsCompareAnswer) old new fault does
 no_task_fault files (Lag cart) old new fault does = unsaved_named CartMovie (files.read cart.now ∷ []) (OfTwo IsLagAnswer) old new fault does

@@ -27,6 +27,7 @@ use Rattle.tas_engines.specs.Comparing.{IsCompareAnswer}
 use Rattle.tas_engines.specs.Lag.{IsLagAnswer}
 use Rattle.tas_engines.specs.Digests.{IsDigestAnswer}
 use Rattle.tas_engines.specs.Ram.{IsRamAnswer}
+use Rattle.tas_engines.specs.RamTable.{IsTableAnswer}
 use Rattle.tas_tool.specs.Films.{IsFilmRun}
 use Rattle.tas_engines.specs.Editing.{IsEditAnswer, IsEditWithAnswer}
 use Rattle.tas_engines.specs.Cutting.{IsCutAnswer}
@@ -56,7 +57,7 @@ use Rattle.tas_program.specs.declared.folder.OrdinaryFile.{OrdinaryFile}
 use Rattle.tas_program.specs.FileWords.{AreSeen, IsSeen, fault_or, first_fault}
 use Rattle.tas_program.specs.OutputWords.{AreInputsSeen, output_fault}
 use Rattle.tas_program.specs.Saving.{Files, FileSteps, SaveEnds}
-use Rattle.tas_program.specs.declared.roles.Roles.TheVariants.{CartMovie, CartOldMovie, CartScriptMovie, CartScriptOtherMovie}
+use Rattle.tas_program.specs.declared.roles.Roles.TheVariants.{CartMovie, CartOldMovie, CartScriptMovie, CartScriptOtherMovie, CartNamesMovie}
 use Rattle.tas_program.specs.Naming.{EndsNamed}
 use Rattle.tas_program.specs.Noting.{NotesDesk, NotesTalk}
 use Rattle.tas_program.specs.Files.{FileBytes, ends_of}
@@ -157,7 +158,8 @@ DoesTask files (Verify words) old new end = ⊥
 DoesTask files (Shot cart k) old new end = EndsPlain (EndsOver (files.read cart.now ∷ []) (IsRun (OfTwo (IsShotAnswer k))) old new) end
 DoesTask files (Film cart from to) old new end = EndsPlain (EndsOver (files.read cart.now ∷ []) (OverOne (IsFilmRun from to)) old new) end
 DoesTask files (Export cart from to workers) old new end = EndsPlain (EndsOver (files.read cart.now ∷ []) (OverOne (IsMovieRun (IsExportAnswer from to))) old new) end
-DoesTask files (Ram cart from to) old new end = EndsNamed CartMovie (files.read cart.now ∷ []) (OfTwo (IsRamAnswer from to)) old new end
+DoesTask files (Ram cart from to None) old new end = EndsNamed CartMovie (files.read cart.now ∷ []) (OfTwo (IsRamAnswer from to)) old new end
+DoesTask files (Ram cart from to (Some names)) old new end = EndsNamed CartNamesMovie (files.read cart.now ∷ files.read names.now ∷ []) (OfThree (IsTableAnswer from to)) old new end
 DoesTask files (Digest cart every) old new end = EndsNamed CartMovie (files.read cart.now ∷ []) (OfTwo (IsDigestAnswer (max every 1))) old new end
 DoesTask files (Compare cart before) old new end = EndsNamed CartOldMovie (files.read cart.now ∷ files.read before.now ∷ []) (OfThree IsCompareAnswer) old new end
 DoesTask files (Lag cart) old new end = EndsNamed CartMovie (files.read cart.now ∷ []) (OfTwo IsLagAnswer) old new end

@@ -4,9 +4,9 @@ use Rattle.tas_engines.specs.declared.fault.ReadFault.{ReadFault}
 use Rattle.tas_engines.specs.declared.fault.ReadFault.TheVariants.{TooLong, Failed, Memory}
 use Rattle.tas_engines.specs.declared.fault.ToolFault.TheVariants.{Read}
 use Rattle.tas_program.specs.declared.roles.Role.{Role}
-use Rattle.tas_program.specs.declared.roles.Role.TheVariants.{Cartridge, Movie, OldMovie, OtherMovie, Script}
+use Rattle.tas_program.specs.declared.roles.Role.TheVariants.{Cartridge, Movie, OldMovie, OtherMovie, Script, Names}
 use Rattle.tas_program.specs.declared.roles.Roles.{Roles}
-use Rattle.tas_program.specs.declared.roles.Roles.TheVariants.{CartMovie, CartOldMovie, CartScriptMovie, CartScriptOtherMovie}
+use Rattle.tas_program.specs.declared.roles.Roles.TheVariants.{CartMovie, CartOldMovie, CartScriptMovie, CartScriptOtherMovie, CartNamesMovie}
 use Rattle.tas_program.specs.declared.status.TaskFault.{TaskFault}
 use Rattle.tas_program.specs.declared.status.TaskFault.TheVariants.{Tool, Unread}
 
@@ -16,6 +16,7 @@ roles_in CartMovie = Cartridge ∷ Movie ∷ []
 roles_in CartOldMovie = Cartridge ∷ OldMovie ∷ Movie ∷ []
 roles_in CartScriptMovie = Cartridge ∷ Script ∷ Movie ∷ []
 roles_in CartScriptOtherMovie = Cartridge ∷ Script ∷ OtherMovie ∷ Movie ∷ []
+roles_in CartNamesMovie = Cartridge ∷ Names ∷ Movie ∷ []
 
 -- the one at a place, counted from 0; no command has an input past the last one
 abbrev pub role_in : List Role → ℕ → Role
@@ -30,6 +31,7 @@ second_of CartMovie = None
 second_of CartOldMovie = Some 1
 second_of CartScriptMovie = None
 second_of CartScriptOtherMovie = Some 2
+second_of CartNamesMovie = None
 
 -- an input wasn't read whole: the fault names it, but where memory was refused
 abbrev pub unread_fault : Role → ReadFault → TaskFault

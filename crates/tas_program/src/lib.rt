@@ -10,6 +10,7 @@ mod directory;
 mod file_words;
 mod folder;
 mod journal_files;
+mod named_runs;
 mod naming;
 mod noted_talks;
 mod opened_runs;

@@ -25,6 +25,8 @@ pub enum Role {
     OtherMovie,
     /// The script of changes.
     Script,
+    /// The names of addresses.
+    Names,
 }
 
 impl Display for Role {
@@ -35,6 +37,7 @@ impl Display for Role {
             Role::OldMovie => f.write_str("old movie"),
             Role::OtherMovie => f.write_str("other movie"),
             Role::Script => f.write_str("script"),
+            Role::Names => f.write_str("names"),
         }
     }
 }
@@ -50,6 +53,8 @@ pub enum Roles {
     CartScriptMovie,
     /// A cartridge, a script, another movie and a movie.
     CartScriptOtherMovie,
+    /// A cartridge, names of addresses and a movie.
+    CartNamesMovie,
 }
 
 /// The one of these at a place, counted from 0; past their end it is the movie.
@@ -71,6 +76,7 @@ pub(crate) fn role_of(roles: Roles, place: usize) -> Role
             &[Role::Cartridge, Role::Script, Role::OtherMovie, Role::Movie],
             place,
         ),
+        Roles::CartNamesMovie => role_in(&[Role::Cartridge, Role::Names, Role::Movie], place),
     }
 }
 
@@ -83,6 +89,7 @@ pub(crate) fn second_of(roles: Roles) -> Option<usize>
         Roles::CartOldMovie => Some(1),
         Roles::CartScriptMovie => None,
         Roles::CartScriptOtherMovie => Some(2),
+        Roles::CartNamesMovie => None,
     }
 }
 

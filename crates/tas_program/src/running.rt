@@ -10,11 +10,11 @@ ghost use Rattle.std.specs.Io.KnownBytes.{Appends};
 ghost use Rattle.tas_engines.specs.declared.fault.RunFault.{RunFault};
 ghost use Rattle.tas_engines.specs.Commands.{IsRun};
 ghost use Rattle.tas_engines.specs.Output.{StopsWriting};
-ghost use Rattle.tas_words.specs.declared.task.Task.TheVariants.{Edit};
 ghost use Rattle.tas_program.specs.Files.{files_by};
 ghost use Rattle.tas_program.specs.Program.{EndsOver, DoesTask, IsTaskRun, CarriesOut, ProgramEnds, RunsScript, desk_of, end_status, talk_of, tool_end};
 ghost use Rattle.tas_program.specs.Reporting.{reported_of};
 
+use crate::named_runs::{run_edit, run_ram};
 use crate::naming::run_named;
 use crate::opened_runs::{run_export, run_film, run_new};
 use crate::searching::do_task;
@@ -104,49 +104,6 @@ pub(crate) fn run_over<C: Command, A: Allocator + Copy, F: Folder, R: Read, W: W
     run(alloc, command, files.as_mut_slice(), input, output)
 }
 
-/// Makes the edits of a script on the movie whose text is the input.
-fn run_edit<A: Allocator + Copy, F: Folder, R: Read, W: Write>(
-    alloc: A,
-    cart: &str,
-    script: &str,
-    other: Option<&str>,
-    folder: &F,
-    input: &mut R,
-    output: &mut W,
-) -> Result<(), TaskFault>
-    ensures { DoesTask (files_by (F.bytes_of folder.now) (F.held_by folder.now) (F.shown folder.now))
-        (Edit cart.entry script.entry other.entry)
-        (record { input = R.remaining input.old; output = W.contents output.old })
-        (record { input = R.remaining input.new; output = W.contents output.new }) result }
-{
-    match other {
-        None => {
-            let command = Whole(commands::Edit);
-            run_named(
-                alloc,
-                &command,
-                Roles::CartScriptMovie,
-                &[cart, script],
-                folder,
-                input,
-                output,
-            )
-        }
-        Some(other) => {
-            let command = Whole(commands::EditWith);
-            run_named(
-                alloc,
-                &command,
-                Roles::CartScriptOtherMovie,
-                &[cart, script, other],
-                folder,
-                input,
-                output,
-            )
-        }
-    }
-}
-
 /// Does a task that reports nothing, and holds no conversation, by its engine, over the two streams that engines know.
 pub(crate) fn run_engine<
     T: Wait + Threads + Sync,
@@ -200,11 +157,12 @@ pub(crate) fn run_engine<
             to,
             workers,
         } => ended(run_export(rt, alloc, cart, from, to, workers, folder, input, output)),
-        Task::Ram { cart, from, to } => {
-            let command = commands::Ram { from, to };
-            let roles = Roles::CartMovie;
-            run_named(alloc, &command, roles, &[cart], folder, input, output)
-        }
+        Task::Ram {
+            cart,
+            from,
+            to,
+            names,
+        } => run_ram(alloc, cart, (from, to), names, folder, input, output),
         Task::Digest { cart, every } => {
             let command = Whole(commands::Digest { every });
             let roles = Roles::CartMovie;
@@ -276,11 +234,11 @@ pub fn run_task<
     // Refused: check_draws_the_first_frame*, each_file_is_the_first, migration_is_answered_as_check*,
     // talk_is_run_as_a_script*, shot_of_the_frame_before, script_and_cartridge_are_swapped*,
     // movie_and_cartridge_of_a_script_are_swapped*, film_starts_at_its_end, ram_ends_before_its_last_line*,
-    // digest_ignores_every*, new_movie_has_one_frame*, compare_is_answered_as_diff*, cut_ends_before_its_last_frame*,
-    // script_and_second_movie_are_swapped*.
+    // table_has_all_bytes, digest_ignores_every*, new_movie_has_one_frame*, compare_is_answered_as_diff*,
+    // cut_ends_before_its_last_frame*, script_and_second_movie_are_swapped*.
     // A fault of `ram`, `digest`, `compare`, `lag`, `edit`, `cut` and `diff` names its input, as `named_run` says, by the names that the command
     // has for its inputs; where one of their files can't be opened it has the name of one of them. That it is this one's, no clause says.
-    // Refused: other_movie_of_an_edit_has_no_name.
+    // Refused: other_movie_of_an_edit_has_no_name, names_file_is_named_as_the_script.
     // A desk's conversations are those of its pairs, in order: their bytes are those of the first file of each, and the
     // answers come after what the folder says that the second one's writer holds when it is opened (`held_by`): nothing,
     // where the file is empty. The system's folder says nothing, and writes from the first byte on. Nothing of standard

@@ -25,16 +25,31 @@ const DIFF: &[&str] = &["diff", "game.bin", "other"];
 /// Words that make the changes of the file `other`.
 const EDIT: &[&str] = &["edit", "game.bin", "other"];
 
-/// The same, and the file `other` is the second movie, too.
+/// Words that write a table of the bytes that have names in the file `other`.
+const TABLE: &[&str] = &["ram", "game.bin", "0", "1", "--names", "other"];
+
+/// Words that make the changes of the file `other`, which is the second movie, too.
 const EDIT_WITH: &[&str] = &["edit", "game.bin", "other", "--with", "other"];
 
 /// Words that name a file which isn't there, and the line of the fault: that of the first one, whatever else is at fault.
-static UNOPENED: [Refused<'static>; 14] = [
+static UNOPENED: [Refused<'static>; 16] = [
     (
         &["ram", "nothing", "0", "1"],
         b"",
         ONE_FRAME,
         b"fault: cartridge: read failed\n",
+    ),
+    (
+        &["ram", "nothing", "0", "1", "--names", "nothing"],
+        b"",
+        ONE_FRAME,
+        b"fault: cartridge: read failed\n",
+    ),
+    (
+        &["ram", "game.bin", "0", "1", "--names", "nothing"],
+        b"",
+        b"",
+        b"fault: names: read failed\n",
     ),
     (
         &["digest", "nothing"],
@@ -125,7 +140,7 @@ fn files_that_cannot_be_opened_are_named(rt: HostRuntime) {
 const CUT: &[u8] = b"a26movie 1\n";
 
 /// Texts of which the first, the second or both are at fault; the line names the first one that is, unless it is on standard input.
-static TEXTS: [Refused<'static>; 16] = [
+static TEXTS: [Refused<'static>; 18] = [
     (COMPARE, CUT, ONE_FRAME, b"fault: old movie line 2: end\n"),
     (COMPARE, CUT, b"", b"fault: old movie line 2: end\n"),
     (COMPARE, ONE_FRAME, CUT, b"fault: movie line 2: end\n"),
@@ -143,6 +158,8 @@ static TEXTS: [Refused<'static>; 16] = [
     (EDIT_WITH, ONE_FRAME, ONE_FRAME, b"fault: script line 1\n"),
     (EDIT, CUT, CUT, b"fault: movie line 2: end\n"),
     (EDIT, CUT, ONE_FRAME, b"fault: script line 1\n"),
+    (TABLE, CUT, CUT, b"fault: movie line 2: end\n"),
+    (TABLE, CUT, ONE_FRAME, b"fault: names line 1: address\n"),
     (
         &["ram", "game.bin", "0", "1"],
         b"",
@@ -201,7 +218,7 @@ fn inputs_that_are_too_long_are_named(rt: HostRuntime) {
         game,
         other: ONE_FRAME,
     };
-    let rows: [(&[&str], TwoFiles<'_>, &[u8]); 6] = [
+    let rows: [(&[&str], TwoFiles<'_>, &[u8]); 7] = [
         (DIFF, all_long, b"fault: cartridge: input is too long\n"),
         (DIFF, other_long, b"fault: old movie: input is too long\n"),
         (
@@ -210,6 +227,7 @@ fn inputs_that_are_too_long_are_named(rt: HostRuntime) {
             b"fault: old movie: input is too long\n",
         ),
         (EDIT_WITH, other_long, b"fault: script: input is too long\n"),
+        (TABLE, other_long, b"fault: names: input is too long\n"),
         (DIFF, no_file_long, b"fault: movie: input is too long\n"),
         (
             EDIT_WITH,
@@ -267,7 +285,7 @@ const INPUT: &str = "input";
 /// Words with a file for each input.
 const EDIT_ALL: &[&str] = &["edit", "game.bin", "fix.script", "--with", "other"];
 
-static UNREAD: [Row; 12] = [
+static UNREAD: [Row; 14] = [
     (DIFF, "game.bin", b"fault: cartridge: read failed\n"),
     (DIFF, "other", b"fault: old movie: read failed\n"),
     (DIFF, INPUT, b"fault: movie: read failed\n"),
@@ -276,6 +294,8 @@ static UNREAD: [Row; 12] = [
     (EDIT_ALL, "fix.script", b"fault: script: read failed\n"),
     (EDIT_ALL, "other", b"fault: other movie: read failed\n"),
     (EDIT_ALL, INPUT, b"fault: movie: read failed\n"),
+    (TABLE, "other", b"fault: names: read failed\n"),
+    (TABLE, INPUT, b"fault: movie: read failed\n"),
     (
         &["cut", "game.bin", "0", "1"],
         INPUT,

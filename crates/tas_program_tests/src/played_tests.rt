@@ -48,6 +48,67 @@ fn ram_has_a_line_for_each_number_of_frames(rt: HostRuntime) {
     check_run(&rt, alloc, &words, only_game(game), text, end);
 }
 
+/// Names of the byte that the cartridge stores, and of one that it leaves alone.
+const NAMES: &[u8] = b"stored 80\nrest FF\n";
+
+/// The table's rows are power-on's and those after one frame and two.
+#[test]
+fn a_table_of_ram_has_a_column_for_each_name(rt: HostRuntime) {
+    let alloc = rt.alloc();
+    let movie = recording_of(&rt, alloc, STORING, 2, IDLE);
+    let (game, text) = movie.files();
+    let table = b"frames played,stored,rest\n0,0,0\n1,66,0\n2,66,0\n";
+    let folder = TwoFiles { game, other: NAMES };
+    let words = ["ram", "game.bin", "0", "3", "--names", "other"];
+    check_run(&rt, alloc, &words, folder, text, (0, table, b""));
+}
+
+/// Words of tables over a movie of one frame, the file `other`, and the line of the fault.
+static TABLE_FAULTS: [(&[&str], &[u8], &[u8]); 6] = [
+    (
+        &["ram", "game.bin", "0", "1", "--names", "nothing"],
+        b"",
+        b"fault: names: read failed\n",
+    ),
+    (
+        &["ram", "game.bin", "0", "1", "--names", "other"],
+        b"stored 80",
+        b"fault: names line 1: end\n",
+    ),
+    (
+        &["ram", "game.bin", "0", "1", "--names", "other"],
+        b"stored 80\nrest\n",
+        b"fault: names line 2: space\n",
+    ),
+    (
+        &["ram", "game.bin", "0", "1", "--names", "other"],
+        b"stored 7F\n",
+        b"fault: names line 1: address\n",
+    ),
+    (
+        &["ram", "game.bin", "0", "9", "--names", "other"],
+        b"stored 80\nrest FF\nstored 81\n",
+        b"fault: names line 3: name\n",
+    ),
+    (
+        &["ram", "game.bin", "0", "9", "--names", "other"],
+        NAMES,
+        b"fault: range 0 to 9 of 1\n",
+    ),
+];
+
+#[test]
+fn faults_of_tables_write_nothing(rt: HostRuntime) {
+    let alloc = rt.alloc();
+    let movie = recording_of(&rt, alloc, STORING, 1, IDLE);
+    let (game, text) = movie.files();
+    for row in TABLE_FAULTS.iter() {
+        let (words, other, line) = *row;
+        let end = (1, b"".as_slice(), line);
+        check_run(&rt, alloc, words, TwoFiles { game, other }, text, end);
+    }
+}
+
 /// The digests come from another program: of the image, of the movie's text, of 128 and of 256 zeros, and of the playfield's picture.
 pub const BY_FRAME: &[u8] = b"a26digest 1
 profile 2

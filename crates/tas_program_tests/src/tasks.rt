@@ -130,7 +130,12 @@ fn parts<'a>(order: Order<'a>) -> Parts<'a> {
             let numbers = three(Some(from), Some(to), Some(workers));
             ("export", [Some(cart), None, None, None], numbers)
         }
-        Task::Ram { cart, from, to } => ("ram", [Some(cart), None, None, None], two(from, to)),
+        Task::Ram {
+            cart,
+            from,
+            to,
+            names,
+        } => ("ram", [Some(cart), names, None, None], two(from, to)),
         Task::Digest { cart, every } => ("digest", [Some(cart), None, None, None], one(every)),
         Task::Compare { cart, old } => ("compare", [Some(cart), Some(old), None, None], [None; 6]),
         Task::Lag { cart } => ("lag", [Some(cart), None, None, None], [None; 6]),

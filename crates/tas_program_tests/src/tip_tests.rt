@@ -73,7 +73,7 @@ static TIPS: [Refused<'static>; 14] = [
 ];
 
 /// Such words with flags beside them: the tip's call has these in the place of its own.
-static FLAGGED: [Refused<'static>; 10] = [
+static FLAGGED: [Refused<'static>; 11] = [
     (
         &[
             "edit",
@@ -125,6 +125,17 @@ static FLAGGED: [Refused<'static>; 10] = [
             "reach 1",
         ],
         b"error: invalid value 'game.movie' for '<FROM>': invalid digit found in string\n\n  tip: the movie is read from standard input: tas search game.bin 60 12 'reach byte:80 == 85' --first=1/2 < game.movie\n\nFor more information, try '--help'.\n",
+    ),
+    (
+        &[
+            "ram",
+            "game.bin",
+            "game.movie",
+            "60",
+            "--names",
+            "ram.names",
+        ],
+        b"error: invalid value 'game.movie' for '<FROM>': invalid digit found in string\n\n  tip: the movie is read from standard input: tas ram game.bin 1 61 --names ram.names < game.movie\n\nFor more information, try '--help'.\n",
     ),
     (
         &["verify", "--workers", "4", "game.digest"],

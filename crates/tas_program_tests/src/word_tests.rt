@@ -13,7 +13,7 @@ use std::thread::Threads;
 use std::time::Clock;
 
 /// Words that name a task, the first of them its command, and the task's files and numbers.
-static TASKS: [(&[&str], &[&str], &[usize]); 47] = [
+static TASKS: [(&[&str], &[&str], &[usize]); 49] = [
     (&["trace", "0"], &[], &[0]),
     (&["trace", "3"], &[], &[3]),
     (&["trace", "1000000"], &[], &[1_000_000]),
@@ -104,6 +104,12 @@ static TASKS: [(&[&str], &[&str], &[usize]); 47] = [
         &[0, 9_999_999],
     ),
     (&["ram", "7", "9999999", "0"], &["7"], &[9_999_999, 0]),
+    (
+        &["ram", "a.bin", "0", "1", "--names", "b"],
+        &["a.bin", "b"],
+        &[0, 1],
+    ),
+    (&["ram", "--names=9", "7", "8", "10"], &["7", "9"], &[8, 10]),
     (&["digest", "a.bin"], &["a.bin"], &[600]),
     (&["digest", "a.bin", "1"], &["a.bin"], &[1]),
     (&["digest", "7", "262144"], &["7"], &[262_144]),
@@ -269,7 +275,7 @@ static EDIT_MISUSES: [&[&str]; 27] = [
 ];
 
 /// Words that look at many frames, and are no task.
-static LOOK_MISUSES: [&[&str]; 33] = [
+static LOOK_MISUSES: [&[&str]; 36] = [
     &["export", "game.bin"],
     &["export", "game.bin", "0", "1"],
     &["export", "game.bin", "0", "1", "1", "1"],
@@ -292,6 +298,9 @@ static LOOK_MISUSES: [&[&str]; 33] = [
     &["ram", "game.bin", "10000000", "1"],
     &["ram", "game.bin", "0", "10000000"],
     &["ram", "game.bin", "0", "1", "1"],
+    &["ram", "game.bin", "0", "1", "--names"],
+    &["ram", "game.bin", "0", "--names", "other"],
+    &["ram", "game.bin", "0", "1", "other", "--names", "other"],
     &["digest"],
     &["digest", "game.bin", "0"],
     &["digest", "game.bin", "262145"],
@@ -536,7 +545,7 @@ static HELPS: [Shown<'static>; 21] = [
     ),
     (
         &["ram", "--help"],
-        b"Writes the RAM after some numbers of frames of a movie, a line for each\n\nUsage: tas ram <CART> <FROM> <TO> < MOVIE\n",
+        b"Writes the RAM after some numbers of frames of a movie, a line for each\n\nUsage: tas ram [OPTIONS] <CART> <FROM> <TO> < MOVIE\n",
     ),
     (
         &["digest", "--help"],

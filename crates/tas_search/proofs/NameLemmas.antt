@@ -1,5 +1,5 @@
 -- Each name of a names file means its byte.
-use Rattle.std.proofs.Common.{◌≡◌, ℕ, zero, suc, ◌+◌, ◌%◌, ◌^◌, ◌<◌, ◌≤◌, ◌&&◌, Bool, true, false, List, [], ◌∷◌, ◌++◌, length, get_or, take, drop, Option, Some, None, refl, sym, ap, subst, ◌∙◌, arith, append_assoc}
+use Rattle.std.proofs.Common.{◌≡◌, ℕ, zero, suc, ◌+◌, ◌%◌, ◌^◌, ◌<◌, ◌≤◌, ◌&&◌, ◌||◌, Bool, true, false, List, [], ◌∷◌, ◌++◌, length, get_or, take, drop, Option, Some, None, refl, sym, ap, subst, ◌∙◌, arith, append_assoc}
 use Rattle.std.specs.Prelude.{decimal, codes, is_none, not, if◌then◌else◌}
 use Rattle.std.specs.Char.{is_ascii_digit}
 use Rattle.std.specs.List.{list_all}
@@ -8,9 +8,11 @@ use Rattle.std.proofs.lemmas.Fmt.{decimal_by_steps}
 use Rattle.std.proofs.lemmas.Bool.{le-leb}
 use Rattle.std.proofs.lemmas.Slice.Eq.{bytes_eq-Decides}
 use Rattle.byte_text.specs.Splitting.{NoByte}
+use Rattle.tas_engines.specs.Names.{Names, address_of, named}
+use Rattle.tas_engines.specs.NamesFile.{is_name_byte, is_identifier, is_reserved, is_name, AreNew}
+use Rattle.tas_search.specs.declared.word.Word.{Word}
 use Rattle.tas_search.specs.declared.word.Word.TheVariants as word
-use Rattle.tas_search.specs.NamesFile.{is_name_byte, is_identifier, is_name, AreNew, AllMean}
-use Rattle.tas_search.specs.Words.{Names, operator_words, sign_words, row_of, number_of, address_of, named, place_of, placed, word_of}
+use Rattle.tas_search.specs.Words.{AllMean, operator_words, sign_words, row_of, number_of, place_of, placed, word_of}
 use Rattle.tas_search.proofs.TextLemmas.{number_none}
 
 -- ---- tests
@@ -26,6 +28,15 @@ none_is (Some x) e = absurd cc
 is_not : (a : Bool) → not a ≡ true → a ≡ false
 is_not false e = refl
 is_not true e = absurd cc
+
+none_of : (a b c : Bool) → (a || b || c) ≡ false → (a ≡ false) × (b ≡ false) × (c ≡ false)
+none_of false false false e = (refl, refl, refl)
+none_of false false true e = absurd cc
+none_of false true c e = absurd cc
+none_of true b c e = absurd cc
+
+neither : (w : List ℕ) → is_reserved w ≡ false → (bytes_eq w (codes "not") ≡ false) × (bytes_eq w (codes "and") ≡ false) × (bytes_eq w (codes "or") ≡ false)
+neither w h = none_of (bytes_eq w (codes "not")) (bytes_eq w (codes "and")) (bytes_eq w (codes "or")) h
 
 -- ---- a name has no colon
 
@@ -90,19 +101,42 @@ means names (b ∷ bytes) at is sign operator there =
     let pair = no_place names (codes "pair:") (b ∷ bytes) free (λ h. h.1.1.1.1.0 refl) in
     rw (sign, operator, number, byte, bcd, pair, there) refl
 
+-- a word that is no identifier is none of these
+no_word : (w said : List ℕ) → is_identifier w ≡ true → is_identifier said ≡ false → bytes_eq w said ≡ false
+no_word w said is no = go (bytes_eq w said) refl
+  where
+    go : (b : Bool) → bytes_eq w said ≡ b → b ≡ false
+    go false e = refl
+    go true e = let same : is_identifier said ≡ true = subst (λ (r : List ℕ). is_identifier r ≡ true) ((bytes_eq-Decides w said).0 e) is in let bad : false ≡ true = sym no ∙ same in absurd cc
+
+-- each word of a table is other than this one
+abbrev AreOther : List ℕ → List (List ℕ × Word) → Type 0
+AreOther w [] = Unit {0}
+AreOther w (row ∷ rows) = (bytes_eq w row.0 ≡ false) × AreOther w rows
+
+no_row : (w : List ℕ) (rows : List (List ℕ × Word)) → AreOther w rows → row_of rows w ≡ None
+no_row w [] h = refl
+no_row w (row ∷ rows) h = rw h.0 (no_row w rows h.1)
+
+no_sign : (w : List ℕ) → is_identifier w ≡ true → is_reserved w ≡ false → row_of sign_words w ≡ None
+no_sign w is free = no_row w sign_words (no_word w (codes "(") is refl, (no_word w (codes ")") is refl, ((neither w free).0, tt)))
+
+no_operator : (w : List ℕ) → is_identifier w ≡ true → is_reserved w ≡ false → row_of operator_words w ≡ None
+no_operator w is free =
+    let n = neither w free in
+    no_row w operator_words (n.2, (n.1, (no_word w (codes "==") is refl, (no_word w (codes "!=") is refl, (no_word w (codes "<") is refl, (no_word w (codes "<=") is refl, (no_word w (codes ">") is refl, (no_word w (codes ">=") is refl, (no_word w (codes "+") is refl, (no_word w (codes "-") is refl, (no_word w (codes "*") is refl, tt)))))))))))
+
 record Parts (names : Names) (w : List ℕ) : Type 0 where
   identifier : is_identifier w ≡ true
-  sign : row_of sign_words w ≡ None
-  operator : row_of operator_words w ≡ None
+  free : is_reserved w ≡ false
   new : named names w ≡ None
 
 parts_of : (names : Names) (w : List ℕ) → is_name names w ≡ true → Parts names w
 parts_of names w h =
-    let a = both (is_identifier w && is_none (row_of sign_words w) && is_none (row_of operator_words w) && is_none (address_of w)) (is_none (named names w)) h in
-    let b = both (is_identifier w && is_none (row_of sign_words w) && is_none (row_of operator_words w)) (is_none (address_of w)) a.0 in
-    let c = both (is_identifier w && is_none (row_of sign_words w)) (is_none (row_of operator_words w)) b.0 in
-    let d = both (is_identifier w) (is_none (row_of sign_words w)) c.0 in
-    record { identifier = d.0; sign = none_is (row_of sign_words w) d.1; operator = none_is (row_of operator_words w) c.1; new = none_is (named names w) a.1 }
+    let a = both (is_identifier w && not (is_reserved w) && is_none (address_of w)) (is_none (named names w)) h in
+    let b = both (is_identifier w && not (is_reserved w)) (is_none (address_of w)) a.0 in
+    let c = both (is_identifier w) (not (is_reserved w)) b.0 in
+    record { identifier = c.0; free = is_not (is_reserved w) c.1; new = none_is (named names w) a.1 }
 
 pub identifier_of : (names : Names) (w : List ℕ) → is_name names w ≡ true → is_identifier w ≡ true
 identifier_of names w h = let p = parts_of names w h in p.identifier
@@ -111,7 +145,7 @@ all_mean : (before names : Names) → AreNew before names → AllMean (before ++
 all_mean before [] h = tt
 all_mean before (n ∷ more) h =
     let p = parts_of before n.0 h.0.is in (
-      means (before ++ n ∷ more) n.0 n.1 p.identifier p.sign p.operator (named_there before more n p.new),
+      means (before ++ n ∷ more) n.0 n.1 p.identifier (no_sign n.0 p.identifier p.free) (no_operator n.0 p.identifier p.free) (named_there before more n p.new),
       subst (λ (ns : Names). AllMean ns more) (append_assoc before (n ∷ []) more) (all_mean (before ++ n ∷ []) more h.1),
     )
 

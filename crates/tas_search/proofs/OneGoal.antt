@@ -2,6 +2,7 @@
 use Rattle.std.proofs.Common.{◌≡◌, ℕ, List, [], ◌∷◌, ◌++◌, get_or, refl, arith, sym, ap, subst, ◌∙◌, inl, inr}
 use Rattle.std.specs.Prelude.{codes}
 use Rattle.byte_text.proofs.SplitLemmas.{same_front}
+use Rattle.tas_engines.specs.Names.{Names}
 use Rattle.tas_search.specs.declared.expression.Operator.{Operator}
 use Rattle.tas_search.specs.declared.goal.GoalKind.{GoalKind}
 use Rattle.tas_search.specs.declared.goal.GoalKind.TheVariants.{Reach, Most, Least}
@@ -9,7 +10,7 @@ use Rattle.tas_search.specs.declared.word.Word.{Word}
 use Rattle.tas_search.specs.declared.word.Word.TheVariants as word
 use Rattle.tas_search.specs.Grammar.{Tree, number, byte, digits, pair, negated, joined, words_of, IsBare, Spells}
 use Rattle.tas_search.specs.GoalText.{kind_word, IsGoalText}
-use Rattle.tas_search.specs.Words.{Names, words_in}
+use Rattle.tas_search.specs.Words.{words_in}
 use Rattle.tas_search.proofs.GrammarLemmas.{nothing, one_tree, no_words, second}
 use Rattle.tas_search.proofs.TextLemmas.{kind_free}
 

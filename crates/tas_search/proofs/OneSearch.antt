@@ -6,6 +6,7 @@ use Rattle.tas_movie.specs.Content.{MovieContent}
 use Rattle.tas_movie.proofs.TextLemmas.{frames_same}
 use Rattle.tas_movie.proofs.TwoTexts.{one_movie}
 use Rattle.tas_engines.specs.Movies.{IsMovieOf}
+use Rattle.tas_engines.specs.Names.{Names}
 use Rattle.tas_engines.specs.Scripts.{change_line}
 use Rattle.tas_search.specs.declared.goal.GoalKind.{GoalKind}
 use Rattle.tas_search.specs.declared.movie_search.SearchRange.{SearchRange}
@@ -19,7 +20,6 @@ use Rattle.tas_search.specs.Reported.{IsReported, DifferInTimes}
 use Rattle.tas_search.specs.SearchText.{SearchInputs, IsRangeOf, AreGiven, IsGoalOver, IsFoundText, IsSearchText}
 use Rattle.tas_search.specs.Space.{SpaceContent}
 use Rattle.tas_search.specs.Verdict.{IsVerdict}
-use Rattle.tas_search.specs.Words.{Names}
 use Rattle.tas_search.proofs.OneAnswer.{one_answer}
 use Rattle.tas_search.proofs.OneGoal.{one_goal}
 use Rattle.tas_search.proofs.OneText.{one_names, ranges, one_count, one_verdict, verdict_same, one_change, one_report}

@@ -15,6 +15,8 @@ use Rattle.byte_text.proofs.SplitLemmas.{same_front}
 use Rattle.tas_movie.specs.Content.{MovieContent}
 use Rattle.tas_language.specs.declared.change.Change.{Change}
 use Rattle.tas_language.proofs.PartLemmas.{digit_same}
+use Rattle.tas_engines.specs.Names.{Names}
+use Rattle.tas_engines.specs.NamesFile.{name_line, is_name_byte, is_identifier, IsNew, AreNew, AreNames}
 use Rattle.tas_search.specs.declared.goal.GoalKind.{GoalKind}
 use Rattle.tas_search.specs.declared.goal.GoalKind.TheVariants.{Reach, Most, Least}
 use Rattle.tas_search.specs.declared.movie_search.SearchRange.{SearchRange}
@@ -22,13 +24,11 @@ use Rattle.tas_search.specs.declared.space_part.SpacePart.{SpacePart}
 use Rattle.tas_search.specs.LayerLines.{state_count}
 use Rattle.tas_search.specs.Logs.{LogBytes}
 use Rattle.tas_search.specs.MovieSearch.{WritesFound}
-use Rattle.tas_search.specs.NamesFile.{name_line, is_name_byte, is_identifier, IsNew, AreNew, AreNames}
 use Rattle.tas_search.specs.Outcome.{Outcome, best, nothing, stopped}
 use Rattle.tas_search.specs.Power.{IsDecimal}
 use Rattle.tas_search.specs.Reported.{IsLastLayer, IsReported, DifferInTimes}
 use Rattle.tas_search.specs.Space.{SpaceContent}
 use Rattle.tas_search.specs.Verdict.{IsCounted, IsNone, IsAnswerLine, IsVerdict, count_of, part_front}
-use Rattle.tas_search.specs.Words.{Names}
 use Rattle.tas_search.proofs.NameLemmas.{identifier_of, both}
 
 -- ---- names

@@ -1,5 +1,6 @@
 -- Texts of goals, and why a text is none.
 use Rattle.std.specs.Prelude.{◌≡◌, ℕ, ◌+◌, ◌^◌, ◌≤◌, List, ◌∷◌, ◌++◌, length, codes}
+use Rattle.tas_engines.specs.Names.{Names}
 use Rattle.tas_search.specs.declared.goal.GoalKind.{GoalKind}
 use Rattle.tas_search.specs.declared.goal.GoalKind.TheVariants.{Reach, Most, Least}
 use Rattle.tas_search.specs.declared.goal.GoalFault.{GoalFault}
@@ -7,7 +8,7 @@ use Rattle.tas_search.specs.declared.goal.GoalFault.TheVariants.{Memory, Kind, W
 use Rattle.tas_search.specs.declared.word.Wanted.{Wanted}
 use Rattle.tas_search.specs.Expression.{weight}
 use Rattle.tas_search.specs.Grammar.{Tree, Spells, IsFault}
-use Rattle.tas_search.specs.Words.{Names, words_in}
+use Rattle.tas_search.specs.Words.{words_in}
 
 -- the first word
 abbrev pub kind_word : GoalKind → List ℕ

@@ -5,7 +5,6 @@ pub mod Counts
 pub mod Extremes
 pub mod Operands
 pub mod TreeCode
-pub mod Lines
 pub mod FoundChanges
 pub mod Digits
 pub mod Stops

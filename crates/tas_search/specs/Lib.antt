@@ -4,7 +4,6 @@ pub mod Expression
 pub mod Grammar
 pub mod Words
 pub mod GoalText
-pub mod NamesFile
 pub mod ChoicesFile
 pub mod StickChoices
 pub mod Parts

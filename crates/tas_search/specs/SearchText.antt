@@ -5,6 +5,8 @@ use Rattle.vcs_inputs.specs.declared.input.Input.{Input}
 use Rattle.tas_movie.specs.Content.{MovieContent}
 use Rattle.tas_language.specs.declared.change.Change.{Change}
 use Rattle.tas_engines.specs.Movies.{IsMovieOf, IsMovieFault}
+use Rattle.tas_engines.specs.Names.{Names}
+use Rattle.tas_engines.specs.NamesFile.{AreNames, IsNamesError}
 use Rattle.tas_engines.specs.Scripts.{change_line}
 use Rattle.tas_search.specs.declared.choices.ChoicesError.{ChoicesError}
 use Rattle.tas_search.specs.declared.choices.ChoicesError.TheVariants as error
@@ -17,8 +19,6 @@ use Rattle.tas_search.specs.declared.answering.SearchBytes.{SearchBytes}
 use Rattle.tas_search.specs.declared.search_error.SearchError.TheVariants.{Read, Run, Choices, Names as NamesAt, Goal, Frames, Search as NotSearched, Memory}
 use Rattle.tas_search.specs.ChoicesFile.{AreChoicesOf, IsChoicesError}
 use Rattle.tas_search.specs.StickChoices.{stick_choices}
-use Rattle.tas_search.specs.NamesFile.{AreNames, IsNamesError}
-use Rattle.tas_search.specs.Words.{Names}
 use Rattle.tas_search.specs.Grammar.{Tree}
 use Rattle.tas_search.specs.GoalText.{IsGoalText, IsGoalFault}
 use Rattle.tas_search.specs.Outcome.{Outcome}

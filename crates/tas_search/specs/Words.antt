@@ -1,11 +1,10 @@
 -- What a word of a goal's text is, with the names of a names file.
-use Rattle.std.specs.Prelude.{ℕ, ◌+◌, ◌-◌, ◌*◌, ◌==◌, nat_lt, nat_le, ◌&&◌, if◌then◌else◌, List, [], ◌∷◌, length, take, drop, map, slice_index, codes, decimal, Option, Some, None}
+use Rattle.std.specs.Prelude.{◌≡◌, ℕ, ◌==◌, nat_lt, ◌&&◌, if◌then◌else◌, List, [], ◌∷◌, length, take, drop, map, codes, decimal, Option, Some, None}
 use Rattle.std.specs.Option.{option_or}
 use Rattle.std.specs.Str.{bytes_eq}
 use Rattle.std.specs.Str.Parse.{digits_value}
-use Rattle.byte_text.specs.Digits.{hex_byte}
+use Rattle.tas_engines.specs.Names.{Names, address_of, named}
 use Rattle.tas_search.specs.declared.expression.Operator.TheVariants.{Or, And, Equal, Unequal, Less, AtMost, Greater, AtLeast, Plus, Minus, Times}
-use Rattle.tas_search.specs.declared.name.Name.{Name}
 use Rattle.tas_search.specs.declared.word.Word.{Word}
 use Rattle.tas_search.specs.declared.word.Word.TheVariants as word
 
@@ -26,30 +25,6 @@ row_of (row ∷ rows) w = if bytes_eq w row.0 then Some row.1 else row_of rows w
 -- a number in decimal digits, without leading zeros, below 2 to the power of 32
 abbrev pub number_of : List ℕ → Option ℕ
 number_of w = if bytes_eq w (decimal (digits_value 10 w)) && nat_lt (digits_value 10 w) 4294967296 then Some (digits_value 10 w) else None
-
--- the value of an upper case hexadecimal digit
-abbrev pub hex_value : ℕ → ℕ
-hex_value b = if nat_lt b 58 then b - 48 else b - 55
-
--- what two upper case hexadecimal digits write, the high one first
-abbrev pub digits_address : List ℕ → ℕ
-digits_address w = 16 * hex_value (slice_index w 0) + hex_value (slice_index w 1)
-
--- an address of RAM, 80 to FF, in two such digits
-abbrev pub address_of : List ℕ → Option ℕ
-address_of w = let at = digits_address w in if nat_le 128 at && nat_lt at 256 && bytes_eq w (hex_byte at) then Some at else None
-
--- names, each with its address
-abbrev pub Names : Type 0
-Names = List (List ℕ × ℕ)
-
-abbrev pub names_of : {Z : Type 0} → List (Name Z) → Names
-names_of names = map (λ n. (n.text.items, n.address)) names
-
--- the address of a name
-abbrev pub named : Names → List ℕ → Option ℕ
-named [] w = None
-named (n ∷ names) w = if bytes_eq n.0 w then Some n.1 else named names w
 
 -- the address that is written, or that has a name
 abbrev pub place_of : Names → List ℕ → Option ℕ
@@ -78,6 +53,11 @@ word_of names w =
     (or_else (placed names (codes "bcd:") w) word.Bcd
     (or_else (placed names (codes "pair:") w) word.Pair
     (or_else (named names w) word.Byte word.Other))))))
+
+-- with all of the names each of some is the word of its byte
+abbrev pub AllMean : Names → Names → Type 0
+AllMean names [] = Unit {0}
+AllMean names (n ∷ more) = (word_of names n.0 ≡ word.Byte n.1) × AllMean names more
 
 -- the parts of a text: one more than it has spaces
 abbrev pub push_byte : ℕ → List (List ℕ) → List (List ℕ)

@@ -10,18 +10,18 @@
 //! (`bcd:82`), since `82` is the number 82 elsewhere. A parenthesis is a word, too, as in `find` and `test`.
 
 ghost use Rattle.std.specs.Prelude.{◌≡◌, ◌∷◌, ◌++◌, List, ℕ, IfOk, IfErr, IfSome, IfNone};
-ghost use Rattle.tas_search.specs.Words.{names_of};
+ghost use Rattle.tas_engines.specs.Names.{names_of};
 ghost use Rattle.tas_search.specs.GoalText.{IsGoalText, IsGoalFault, kind_word};
 ghost use Rattle.tas_search.specs.declared.goal.GoalKind.{GoalKind as Kind};
 ghost use Rattle.tas_search.specs.declared.goal.GoalFault.TheVariants.{Memory as Refused};
 
 use crate::formula::Formula;
-use crate::name::Name;
 use crate::operands::{ReadFault, read_expression};
 use crate::reading_words::words_in;
 use crate::word::Wanted;
 use byte_text::split_once;
 use std::alloc::{AllocError, Allocator, Global};
+use tas_engines::Name;
 use thiserror::Error;
 
 /// What a goal asks for.
@@ -102,8 +102,8 @@ pub fn read_goal<A: Allocator + Copy, N: Allocator>(
     // What is read as a goal is a goal's text, and the goal is what it says. A text is reported by `Kind` where it
     // begins with no goal's word, by the word at fault where no expression follows, and by `Great` where it is that of
     // an expression whose weight is at the limit or above. `Memory` says nothing of the text.
-    // Refused: bcd_word_is_a_byte, at_most_has_its_sign_last, address_below_80_is_accepted,
-    // greatest_number_is_no_number, last_word_is_the_whole_text, first_name_is_not_found,
+    // Refused: bcd_word_is_a_byte, at_most_has_its_sign_last,
+    // greatest_number_is_no_number, last_word_is_the_whole_text,
     // goal_fault_names_the_word_before, goal_fault_always_expects_the_end, most_asks_for_the_least,
     // great_goal_is_reported_as_its_kind.
     ensures read { IfOk result

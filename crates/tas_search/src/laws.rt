@@ -3,6 +3,7 @@
 ghost use Rattle.std.specs.Prelude.{◌≡◌, ℕ, suc, ◌-◌, ◌*◌, ◌^◌, ◌<◌, ◌≤◌, ◌↔◌, ℤ, Bool, List, ◌∷◌, ◌++◌, length, map, None};
 ghost use Rattle.std.specs.List.{Contains, range_with_len};
 ghost use Rattle.vcs_machine.specs.Machine.{Machine};
+ghost use Rattle.tas_engines.specs.Names.{Names};
 ghost use Rattle.tas_search.specs.Best.{IsReachAnswer, IsShortest, NeedsAtLeast};
 ghost use Rattle.tas_search.specs.Extreme.{IsExtreme, IsExtremeAnswer};
 ghost use Rattle.tas_search.specs.Outcome.{Outcome, nothing};
@@ -16,7 +17,6 @@ ghost use Rattle.tas_search.specs.Logs.{LogBytes};
 ghost use Rattle.tas_search.specs.Reported.{DifferInTimes};
 ghost use Rattle.tas_search.specs.SearchText.{SearchInputs, IsSearchText};
 ghost use Rattle.tas_search.specs.Space.{SpaceContent, AreNumbers, AreChoices, rank, reached};
-ghost use Rattle.tas_search.specs.Words.{Names};
 
 /// Of two sequences of one length that begin alike, the one comes first whose next choice does.
 pub fn first_difference_decides()

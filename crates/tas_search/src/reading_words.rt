@@ -1,16 +1,17 @@
 //! The words of a goal's text.
 
 ghost use Rattle.std.specs.Prelude.{◌≡◌, IfOk};
-ghost use Rattle.tas_search.specs.Words.{operator_words, sign_words, row_of, number_of, hex_value, address_of, named, place_of, placed, word_of, words_in, names_of};
+ghost use Rattle.tas_engines.specs.Names.{names_of};
+ghost use Rattle.tas_search.specs.Words.{operator_words, sign_words, row_of, number_of, place_of, placed, word_of, words_in};
 
 use crate::expression::Operator;
-use crate::name::Name;
 use crate::word::Word;
-use byte_text::{hex_digits, read_decimal, split_once};
+use byte_text::{read_decimal, split_once};
 use std::alloc::{AllocError, Allocator};
+use tas_engines::{Name, address_of, named};
 
 /// The operator that these bytes are.
-pub(crate) fn operator_word(bytes: &[u8]) -> Option<Word>
+fn operator_word(bytes: &[u8]) -> Option<Word>
     ensures { result ≡ row_of operator_words bytes.now }
 {
     if bytes == b"or".as_slice() {
@@ -50,7 +51,7 @@ pub(crate) fn operator_word(bytes: &[u8]) -> Option<Word>
 }
 
 /// The parenthesis or the `not` that these bytes are.
-pub(crate) fn sign_word(bytes: &[u8]) -> Option<Word>
+fn sign_word(bytes: &[u8]) -> Option<Word>
     ensures { result ≡ row_of sign_words bytes.now }
 {
     if bytes == b"(".as_slice() {
@@ -74,47 +75,6 @@ fn number_of(bytes: &[u8]) -> Option<u32>
         return None;
     }
     Some(n as u32)
-}
-
-/// The value of an upper case hexadecimal digit; of another byte some number below 256.
-fn hex_value(byte: u8) -> u8
-    ensures { result ≡ hex_value byte }
-{
-    if byte < 58 {
-        byte.saturating_sub(48)
-    } else {
-        byte - 55
-    }
-}
-
-/// The address of RAM that two hexadecimal digits write.
-pub(crate) fn address_of(bytes: &[u8]) -> Option<u8>
-    ensures { result ≡ address_of bytes.now }
-{
-    let high = hex_value(bytes.first().copied().unwrap_or(0));
-    let low = hex_value(bytes.get(1).copied().unwrap_or(0));
-    let at = 16 * u16::from(high) + u16::from(low);
-    if at < 128 || at >= 256 {
-        return None;
-    }
-    let address = at as u8;
-    if bytes == hex_digits(address).as_slice() {
-        Some(address)
-    } else {
-        None
-    }
-}
-
-/// The address that has a name.
-pub(crate) fn named<A: Allocator>(names: &[Name<A>], bytes: &[u8]) -> Option<u8>
-    ensures { result ≡ named (names_of names.now) bytes.now }
-{
-    for k in 0..names.len() {
-        if names[k].text.as_slice() == bytes {
-            return Some(names[k].address);
-        }
-    }
-    None
 }
 
 /// The address that is written, or that has a name.

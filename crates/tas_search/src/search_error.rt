@@ -14,9 +14,8 @@ ghost use Rattle.tas_search.specs.declared.search_error.SearchError.TheVariants.
 use crate::choices::ChoicesError;
 use crate::goal::GoalFault;
 use crate::movie_search::SearchFault;
-use crate::names::NamesError;
 use std::alloc::AllocError;
-use tas_engines::{ReadFault, RunFault};
+use tas_engines::{NamesError, ReadFault, RunFault};
 use thiserror::Error;
 
 /// Why a search has no answer. Its text is the line, without the newline, that the program writes to standard error; the program's status

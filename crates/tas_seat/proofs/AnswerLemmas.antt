@@ -19,7 +19,7 @@ use Rattle.tas_desk.specs.Seats.{SeatContent, HasSeen, KeepsZone, IsZoneViewed}
 use Rattle.tas_desk.specs.States.{IsStateFor, IsZoneReached}
 use Rattle.tas_desk.specs.Zones.{IsShared}
 use Rattle.tas_engines.specs.declared.fault.RunFault.{RunFault}
-use Rattle.tas_engines.specs.declared.fault.RunFault.TheVariants.{NoEntry, Memory, Foreign, Write, Size, Text, NoFrame as OffMovie, Range as OffRange, Halted as Stopped, HaltedFrame as StoppedFrame, Script, Place, Long, NoPlace}
+use Rattle.tas_engines.specs.declared.fault.RunFault.TheVariants.{NoEntry, Memory, Foreign, Write, Size, Text, NoFrame as OffMovie, Range as OffRange, Halted as Stopped, HaltedFrame as StoppedFrame, Script, Place, Long, Names as NoNames, NoPlace}
 use Rattle.tas_language.specs.declared.command.Command.{Command}
 use Rattle.tas_language.specs.declared.retouch.Retouch.{Retouch as RetouchLine}
 use Rattle.tas_language.specs.declared.reply.Reply.{Reply}
@@ -63,6 +63,7 @@ unanswered before now command (Size n) is = absurd is
 unanswered before now command (Text error) is = absurd is
 unanswered before now command (OffMovie frame len) is = absurd is
 unanswered before now command (OffRange from to len) is = absurd is
+unanswered before now command (NoNames row kind) is = absurd is
 unanswered before now command (Stopped at opcode) is = absurd is
 unanswered before now command (StoppedFrame frame at opcode) is = absurd is
 unanswered before now command (Script line) is = absurd is

@@ -6,7 +6,7 @@ use Rattle.tas_published.specs.declared.entry.Entry.{Entry}
 use Rattle.tas_published.specs.History.{entries_of}
 use Rattle.tas_desk.specs.Seats.{SeatContent, IsSettled}
 use Rattle.tas_engines.specs.declared.fault.ReadFault.TheVariants.{Failed, TooLong, Memory as ReadMemory}
-use Rattle.tas_engines.specs.declared.fault.RunFault.TheVariants.{Write, Size, Text, NoFrame, Range, Halted, HaltedFrame, Script, Place, Long, NoPlace, NoEntry, Foreign, Memory}
+use Rattle.tas_engines.specs.declared.fault.RunFault.TheVariants.{Write, Size, Text, NoFrame, Range, Halted, HaltedFrame, Script, Place, Long, Names as NoNames, NoPlace, NoEntry, Foreign, Memory}
 use Rattle.tas_engines.specs.declared.fault.ToolFault.{ToolFault}
 use Rattle.tas_engines.specs.declared.fault.ToolFault.TheVariants.{Read, Run, Seat}
 use Rattle.tas_engines.specs.declared.fault.SeatFault.{SeatFault}
@@ -63,6 +63,7 @@ not_foreign seat last rest told more input output output' (Err (Run (Size n))) e
 not_foreign seat last rest told more input output output' (Err (Run (Text error))) ends other e = ends
 not_foreign seat last rest told more input output output' (Err (Run (NoFrame frame len))) ends other e = ends
 not_foreign seat last rest told more input output output' (Err (Run (Range from to len))) ends other e = ends
+not_foreign seat last rest told more input output output' (Err (Run (NoNames row kind))) ends other e = ends
 not_foreign seat last rest told more input output output' (Err (Run (Halted at opcode))) ends other e = ends
 not_foreign seat last rest told more input output output' (Err (Run (HaltedFrame frame at opcode))) ends other e = ends
 not_foreign seat last rest told more input output output' (Err (Run (Script line))) ends other e = ends

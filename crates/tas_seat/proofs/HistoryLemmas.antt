@@ -13,7 +13,7 @@ use Rattle.tas_desk.specs.Seats.{SeatContent, entry_of, HasSeen, IsSettled}
 use Rattle.tas_engines.specs.declared.fault.ToolFault.{ToolFault}
 use Rattle.tas_engines.specs.declared.fault.ToolFault.TheVariants.{Read, Run, Seat}
 use Rattle.tas_engines.specs.declared.fault.ReadFault.TheVariants.{TooLong, Failed, Memory as NoRoom}
-use Rattle.tas_engines.specs.declared.fault.RunFault.TheVariants.{Write, Size, Text, NoFrame as OffMovie, Range as OffRange, Halted as Stopped, HaltedFrame as StoppedFrame, Script, Place, Long, NoPlace, NoEntry, Foreign, Memory}
+use Rattle.tas_engines.specs.declared.fault.RunFault.TheVariants.{Write, Size, Text, NoFrame as OffMovie, Range as OffRange, Halted as Stopped, HaltedFrame as StoppedFrame, Script, Place, Long, Names as NoNames, NoPlace, NoEntry, Foreign, Memory}
 use Rattle.tas_language.specs.declared.request.Request.{Request}
 use Rattle.tas_language.specs.declared.request.Request.TheVariants.{Do, Retouch, Picture, Pictures, Ram, Digest, Lag, Movie, States, Share, History, Begin, Commit, Drop, Quit}
 use Rattle.tas_seat.specs.Requests.{StripAnswer, AreShown}
@@ -260,6 +260,7 @@ rested seat last rest told edits input output output' (Err (Run (Size n))) is = 
 rested seat last rest told edits input output output' (Err (Run (Text error))) is = absurd is
 rested seat last rest told edits input output output' (Err (Run (OffMovie frame len))) is = absurd is
 rested seat last rest told edits input output output' (Err (Run (OffRange from to len))) is = absurd is
+rested seat last rest told edits input output output' (Err (Run (NoNames row kind))) is = absurd is
 rested seat last rest told edits input output output' (Err (Run (Stopped at opcode))) is = absurd is
 rested seat last rest told edits input output output' (Err (Run (StoppedFrame frame at opcode))) is = absurd is
 rested seat last rest told edits input output output' (Err (Run (Script number))) is = absurd is

@@ -5,7 +5,7 @@ use Rattle.std.proofs.lemmas.List.{append-nil, length-append}
 use Rattle.tas_movie.specs.declared.edit.Edit.{Edit}
 use Rattle.tas_desk.specs.Seats.{SeatContent, HasSeen}
 use Rattle.tas_engines.specs.declared.fault.RunFault.{RunFault}
-use Rattle.tas_engines.specs.declared.fault.RunFault.TheVariants.{NoEntry, Memory, Foreign, Write, Size, Text, NoFrame as OffMovie, Range as OffRange, Halted as Stopped, HaltedFrame as StoppedFrame, Script, Place, Long, NoPlace}
+use Rattle.tas_engines.specs.declared.fault.RunFault.TheVariants.{NoEntry, Memory, Foreign, Write, Size, Text, NoFrame as OffMovie, Range as OffRange, Halted as Stopped, HaltedFrame as StoppedFrame, Script, Place, Long, Names as NoNames, NoPlace}
 use Rattle.tas_language.specs.declared.request.Request.{Request}
 use Rattle.tas_language.specs.declared.request.Request.TheVariants.{Do, Retouch, Picture, Pictures, Ram, Digest, Lag, Movie, States, Share, History, Begin, Commit, Drop, Quit}
 use Rattle.tas_seat.specs.Turns.{standing_of}
@@ -136,6 +136,7 @@ strip_unanswered A before mid now from to frame bytes (Size n) le few shown is =
 strip_unanswered A before mid now from to frame bytes (Text error) le few shown is = absurd is
 strip_unanswered A before mid now from to frame bytes (OffMovie k len) le few shown is = absurd is
 strip_unanswered A before mid now from to frame bytes (OffRange a b len) le few shown is = absurd is
+strip_unanswered A before mid now from to frame bytes (NoNames row kind) le few shown is = absurd is
 strip_unanswered A before mid now from to frame bytes (Stopped at opcode) le few shown is = absurd is
 strip_unanswered A before mid now from to frame bytes (StoppedFrame k at opcode) le few shown is = absurd is
 strip_unanswered A before mid now from to frame bytes (Script line) le few shown is = absurd is

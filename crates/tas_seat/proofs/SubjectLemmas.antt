@@ -3,7 +3,7 @@ use Rattle.std.proofs.Common.{◌≡◌, ℕ, List, [], Option, Some, None, Resu
 use Rattle.std.specs.Prelude.{MatchResult, MatchOption}
 use Rattle.tas_desk.specs.Seats.{SeatContent}
 use Rattle.tas_engines.specs.declared.fault.RunFault.{RunFault}
-use Rattle.tas_engines.specs.declared.fault.RunFault.TheVariants.{NoEntry, Memory, Foreign, Write, Size, Text, NoFrame as OffMovie, Range as OffRange, Halted as Stopped, HaltedFrame as StoppedFrame, Script, Place, Long, NoPlace}
+use Rattle.tas_engines.specs.declared.fault.RunFault.TheVariants.{NoEntry, Memory, Foreign, Write, Size, Text, NoFrame as OffMovie, Range as OffRange, Halted as Stopped, HaltedFrame as StoppedFrame, Script, Place, Long, Names as NoNames, NoPlace}
 use Rattle.tas_language.specs.declared.request.Request.{Request}
 use Rattle.tas_language.specs.declared.request.Request.TheVariants.{Do, Retouch, Picture, Pictures, Ram, Digest, Lag, Movie, States, Share, History, Begin, Commit, Drop, Quit}
 use Rattle.tas_seat.specs.declared.conversation.Subject.{Subject}
@@ -106,6 +106,7 @@ unanswered_talk A before now request (Size n) of keeps same is = absurd is
 unanswered_talk A before now request (Text error) of keeps same is = absurd is
 unanswered_talk A before now request (OffMovie frame len) of keeps same is = absurd is
 unanswered_talk A before now request (OffRange from to len) of keeps same is = absurd is
+unanswered_talk A before now request (NoNames row kind) of keeps same is = absurd is
 unanswered_talk A before now request (Stopped at opcode) of keeps same is = absurd is
 unanswered_talk A before now request (StoppedFrame frame at opcode) of keeps same is = absurd is
 unanswered_talk A before now request (Script number) of keeps same is = absurd is

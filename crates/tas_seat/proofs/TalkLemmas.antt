@@ -11,7 +11,7 @@ use Rattle.tas_movie.specs.Text.{line}
 use Rattle.tas_movie.specs.declared.edit.Edit.{Edit}
 use Rattle.tas_desk.specs.Seats.{SeatContent}
 use Rattle.tas_engines.specs.declared.fault.RunFault.{RunFault}
-use Rattle.tas_engines.specs.declared.fault.RunFault.TheVariants.{Write, Size, Text, NoFrame as OffMovie, Range as OffRange, Halted as Stopped, HaltedFrame as StoppedFrame, Script, Place, Long, NoPlace, NoEntry, Foreign, Memory}
+use Rattle.tas_engines.specs.declared.fault.RunFault.TheVariants.{Write, Size, Text, NoFrame as OffMovie, Range as OffRange, Halted as Stopped, HaltedFrame as StoppedFrame, Script, Place, Long, Names as NoNames, NoPlace, NoEntry, Foreign, Memory}
 use Rattle.tas_engines.specs.declared.fault.ToolFault.{ToolFault}
 use Rattle.tas_engines.specs.declared.fault.ToolFault.TheVariants.{Read, Run}
 use Rattle.tas_engines.specs.declared.fault.ReadFault.TheVariants.{Failed}
@@ -182,6 +182,7 @@ line_fault before now said request told old (Size n) none heard is entry = absur
 line_fault before now said request told old (Text error) none heard is entry = absurd is
 line_fault before now said request told old (OffMovie frame len) none heard is entry = absurd is
 line_fault before now said request told old (OffRange from to len) none heard is entry = absurd is
+line_fault before now said request told old (NoNames row kind) none heard is entry = absurd is
 line_fault before now said request told old (Stopped at opcode) none heard is entry = absurd is
 line_fault before now said request told old (StoppedFrame frame at opcode) none heard is entry = absurd is
 line_fault before now said request told old (Script number) none heard is entry = absurd is
@@ -433,6 +434,7 @@ stopped {A} start now read input input' output output' fault left s = go fault s
     go (Text error) b = absurd b
     go (OffMovie frame len) b = absurd b
     go (OffRange from to len) b = absurd b
+    go (NoNames row kind) b = absurd b
     go (Stopped at opcode) b = absurd b
     go (StoppedFrame frame at opcode) b = absurd b
     go (Script number) b = absurd b

@@ -29,7 +29,7 @@ use Rattle.tas_engines.specs.Retouching.{retouch_on}
 use Rattle.tas_engines.specs.declared.fault.ToolFault.{ToolFault}
 use Rattle.tas_engines.specs.declared.fault.ToolFault.TheVariants.{Read, Run, Seat}
 use Rattle.tas_engines.specs.declared.fault.ReadFault.TheVariants.{TooLong, Failed, Memory as NoRoom}
-use Rattle.tas_engines.specs.declared.fault.RunFault.TheVariants.{Write, Size, Text, NoFrame as OffMovie, Range as OffRange, Halted as Stopped, HaltedFrame as StoppedFrame, Script, Place, Long, NoPlace, NoEntry, Foreign, Memory}
+use Rattle.tas_engines.specs.declared.fault.RunFault.TheVariants.{Write, Size, Text, NoFrame as OffMovie, Range as OffRange, Halted as Stopped, HaltedFrame as StoppedFrame, Script, Place, Long, Names as NoNames, NoPlace, NoEntry, Foreign, Memory}
 use Rattle.tas_language.specs.declared.reply.Reply.TheVariants.{Full, OutOfMemory}
 use Rattle.tas_language.specs.declared.draft_reply.DraftReply.TheVariants.{Committed, Moved}
 use Rattle.tas_language.specs.Drafts.{draft_reply_text}
@@ -620,6 +620,7 @@ own_ends seat last rest told edits input output output' (Err (Run (Size n))) is 
 own_ends seat last rest told edits input output output' (Err (Run (Text error))) is other seen own = absurd is
 own_ends seat last rest told edits input output output' (Err (Run (OffMovie frame len))) is other seen own = absurd is
 own_ends seat last rest told edits input output output' (Err (Run (OffRange from to len))) is other seen own = absurd is
+own_ends seat last rest told edits input output output' (Err (Run (NoNames row kind))) is other seen own = absurd is
 own_ends seat last rest told edits input output output' (Err (Run (Stopped at opcode))) is other seen own = absurd is
 own_ends seat last rest told edits input output output' (Err (Run (StoppedFrame frame at opcode))) is other seen own = absurd is
 own_ends seat last rest told edits input output output' (Err (Run (Script number))) is other seen own = absurd is
@@ -663,6 +664,7 @@ own_left seat last rest told edits input output output' (Err (Run (Size n))) is 
 own_left seat last rest told edits input output output' (Err (Run (Text error))) is left other seen own = absurd is
 own_left seat last rest told edits input output output' (Err (Run (OffMovie frame len))) is left other seen own = absurd is
 own_left seat last rest told edits input output output' (Err (Run (OffRange from to len))) is left other seen own = absurd is
+own_left seat last rest told edits input output output' (Err (Run (NoNames row kind))) is left other seen own = absurd is
 own_left seat last rest told edits input output output' (Err (Run (Stopped at opcode))) is left other seen own = absurd is
 own_left seat last rest told edits input output output' (Err (Run (StoppedFrame frame at opcode))) is left other seen own = absurd is
 own_left seat last rest told edits input output output' (Err (Run (Script number))) is left other seen own = absurd is

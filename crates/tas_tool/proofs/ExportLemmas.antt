@@ -20,7 +20,7 @@ use Rattle.tas_desk.specs.Zones.{ZoneContent}
 use Rattle.tas_desk.specs.Exports.{IsInRange, IsExport}
 use Rattle.tas_film.specs.Frames.{AllDrawn, pixmaps_of}
 use Rattle.tas_engines.specs.declared.fault.RunFault.{RunFault}
-use Rattle.tas_engines.specs.declared.fault.RunFault.TheVariants.{Write, Size, Text, NoFrame, Range, Halted, HaltedFrame, Script, Place, Long, NoPlace, NoEntry, Foreign, Memory}
+use Rattle.tas_engines.specs.declared.fault.RunFault.TheVariants.{Write, Size, Text, NoFrame, Range, Halted, HaltedFrame, Script, Place, Long, Names as NoNames, NoPlace, NoEntry, Foreign, Memory}
 use Rattle.tas_engines.specs.Movies.{IsMovieOf}
 use Rattle.tas_engines.specs.Shooting.{halt_fault}
 use Rattle.tas_engines.specs.Output.{Ends}
@@ -154,6 +154,7 @@ unmade_ends seat movie from to old (Size n) is own = absurd is
 unmade_ends seat movie from to old (Text error) is own = absurd is
 unmade_ends seat movie from to old (NoFrame frame len) is own = absurd is
 unmade_ends seat movie from to old (Range first end len) is own = absurd is
+unmade_ends seat movie from to old (NoNames row kind) is own = absurd is
 unmade_ends seat movie from to old (Halted at opcode) is own = absurd is
 unmade_ends seat movie from to old (HaltedFrame frame at opcode) is own = absurd is
 unmade_ends seat movie from to old (Script line) is own = absurd is

@@ -20,7 +20,7 @@ use Rattle.tas_desk.specs.Closing.{made_by}
 use Rattle.tas_desk.proofs.SeatLemmas.{count_by-cons, entries_of-prefix, had_by, had_by-le, looked_twice, none_above}
 use Rattle.tas_engines.specs.Output.{StopsWriting}
 use Rattle.tas_engines.specs.declared.fault.RunFault.{RunFault}
-use Rattle.tas_engines.specs.declared.fault.RunFault.TheVariants.{Write, Size, Text, NoFrame, Range, Halted, HaltedFrame, Script, Place, Long, NoPlace, NoEntry, Foreign, Memory}
+use Rattle.tas_engines.specs.declared.fault.RunFault.TheVariants.{Write, Size, Text, NoFrame, Range, Halted, HaltedFrame, Script, Place, Long, Names as NoNames, NoPlace, NoEntry, Foreign, Memory}
 use Rattle.tas_engines.specs.declared.fault.SeatFault.{SeatFault}
 use Rattle.tas_seat.specs.Lines.{DoorFacts, WasHeld}
 use Rattle.tas_tool.specs.Desks.{edits_before, IsBlankZone, IsSeatOf, IsHistoryOf, IsDeskHistory, IsUnwritten}
@@ -351,6 +351,7 @@ unmade_fault {A} seats log fault (first, is, why) none settled count = go fault 
     go (Text error) w = absurd w
     go (NoFrame frame len) w = absurd w
     go (Range from to len) w = absurd w
+    go (NoNames row kind) w = absurd w
     go (Halted at opcode) w = absurd w
     go (HaltedFrame frame at opcode) w = absurd w
     go (Script line) w = absurd w

@@ -8,7 +8,7 @@ use Rattle.tas_published.specs.declared.entry.Entry.{Entry}
 use Rattle.tas_published.specs.History.{movie_of}
 use Rattle.tas_desk.specs.Seats.{SeatContent}
 use Rattle.tas_engines.specs.declared.fault.RunFault.{RunFault}
-use Rattle.tas_engines.specs.declared.fault.RunFault.TheVariants.{Write, Size, Text, NoFrame as OffMovie, Range as OffRange, Halted as Stopped, HaltedFrame as StoppedFrame, Script, Place, Long, NoPlace, NoEntry, Foreign, Memory}
+use Rattle.tas_engines.specs.declared.fault.RunFault.TheVariants.{Write, Size, Text, NoFrame as OffMovie, Range as OffRange, Halted as Stopped, HaltedFrame as StoppedFrame, Script, Place, Long, Names as NoNames, NoPlace, NoEntry, Foreign, Memory}
 use Rattle.tas_engines.specs.Movies.{IsMovieOf}
 use Rattle.tas_seat.specs.Turns.{Standing, standing_of}
 use Rattle.tas_tool.specs.Inside.Alone.{SeesOwn}
@@ -40,6 +40,7 @@ unmade_by seat (Size n) is own = absurd is
 unmade_by seat (Text error) is own = absurd is
 unmade_by seat (OffMovie frame len) is own = absurd is
 unmade_by seat (OffRange from to len) is own = absurd is
+unmade_by seat (NoNames row kind) is own = absurd is
 unmade_by seat (Stopped at opcode) is own = absurd is
 unmade_by seat (StoppedFrame frame at opcode) is own = absurd is
 unmade_by seat (Script line) is own = absurd is

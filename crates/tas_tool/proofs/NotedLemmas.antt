@@ -19,7 +19,7 @@ use Rattle.tas_desk.specs.Zones.{ZoneContent}
 use Rattle.tas_engines.specs.Changes.{EditContent}
 use Rattle.tas_engines.specs.declared.fault.ReadFault.TheVariants.{TooLong, Failed, Memory as NoRoom}
 use Rattle.tas_engines.specs.declared.fault.RunFault.{RunFault}
-use Rattle.tas_engines.specs.declared.fault.RunFault.TheVariants.{Write, Size, Text, NoFrame as OffMovie, Range as OffRange, Halted as Stopped, HaltedFrame as StoppedFrame, Script, Place, Long, NoPlace, NoEntry, Foreign, Memory}
+use Rattle.tas_engines.specs.declared.fault.RunFault.TheVariants.{Write, Size, Text, NoFrame as OffMovie, Range as OffRange, Halted as Stopped, HaltedFrame as StoppedFrame, Script, Place, Long, Names as NoNames, NoPlace, NoEntry, Foreign, Memory}
 use Rattle.tas_engines.specs.declared.fault.ToolFault.TheVariants.{Read, Run, Seat}
 use Rattle.tas_journal.specs.Text.{edit_text, entry_front, entry_text, entry_lines, head_text}
 use Rattle.tas_journaling.specs.Journals.{JournalContent, IsNoted, HasAll, IsCutShort, IsUnsynced, HasLess, IsGivenPart, journaled, lines_from}
@@ -135,6 +135,7 @@ own_made seat last rest told edits input output output' (Err (Tool (Run (Size n)
 own_made seat last rest told edits input output output' (Err (Tool (Run (Text error)))) is left other seen own = absurd is
 own_made seat last rest told edits input output output' (Err (Tool (Run (OffMovie frame len)))) is left other seen own = absurd is
 own_made seat last rest told edits input output output' (Err (Tool (Run (OffRange from to len)))) is left other seen own = absurd is
+own_made seat last rest told edits input output output' (Err (Tool (Run (NoNames row kind)))) is left other seen own = absurd is
 own_made seat last rest told edits input output output' (Err (Tool (Run (Stopped at opcode)))) is left other seen own = absurd is
 own_made seat last rest told edits input output output' (Err (Tool (Run (StoppedFrame frame at opcode)))) is left other seen own = absurd is
 own_made seat last rest told edits input output output' (Err (Tool (Run (Script number)))) is left other seen own = absurd is
@@ -275,6 +276,7 @@ own_given start file old new seat last answered made rest (Err (Tool (Run (Size 
 own_given start file old new seat last answered made rest (Err (Tool (Run (Text error)))) texts makes ends = given_answered start file old new seat last answered.edits made.edits texts ends
 own_given start file old new seat last answered made rest (Err (Tool (Run (OffMovie frame len)))) texts makes ends = given_answered start file old new seat last answered.edits made.edits texts ends
 own_given start file old new seat last answered made rest (Err (Tool (Run (OffRange from to len)))) texts makes ends = given_answered start file old new seat last answered.edits made.edits texts ends
+own_given start file old new seat last answered made rest (Err (Tool (Run (NoNames row kind)))) texts makes ends = given_answered start file old new seat last answered.edits made.edits texts ends
 own_given start file old new seat last answered made rest (Err (Tool (Run (Stopped at opcode)))) texts makes ends = given_answered start file old new seat last answered.edits made.edits texts ends
 own_given start file old new seat last answered made rest (Err (Tool (Run (StoppedFrame frame at opcode)))) texts makes ends = given_answered start file old new seat last answered.edits made.edits texts ends
 own_given start file old new seat last answered made rest (Err (Tool (Run (Script number)))) texts makes ends = given_answered start file old new seat last answered.edits made.edits texts ends
@@ -450,6 +452,7 @@ ends_whole head answered last noted (Err (Tool (Run (Size n)))) ends = ends.0.wh
 ends_whole head answered last noted (Err (Tool (Run (Text error)))) ends = ends.0.whole
 ends_whole head answered last noted (Err (Tool (Run (OffMovie frame len)))) ends = ends.0.whole
 ends_whole head answered last noted (Err (Tool (Run (OffRange from to len)))) ends = ends.0.whole
+ends_whole head answered last noted (Err (Tool (Run (NoNames row kind)))) ends = ends.0.whole
 ends_whole head answered last noted (Err (Tool (Run (Stopped at opcode)))) ends = ends.0.whole
 ends_whole head answered last noted (Err (Tool (Run (StoppedFrame frame at opcode)))) ends = ends.0.whole
 ends_whole head answered last noted (Err (Tool (Run (Script number)))) ends = ends.0.whole

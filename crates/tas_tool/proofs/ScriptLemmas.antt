@@ -5,7 +5,7 @@ use Rattle.std.specs.List.{flat_map}
 use Rattle.std.specs.Io.KnownBytes.{Appends}
 use Rattle.std.proofs.KnownBytes.{Appends-nil}
 use Rattle.tas_engines.specs.declared.fault.RunFault.{RunFault}
-use Rattle.tas_engines.specs.declared.fault.RunFault.TheVariants.{Write, Size, Text, NoFrame as OffMovie, Range as OffRange, Halted as Stopped, HaltedFrame as StoppedFrame, Script, Place, Long, NoPlace, NoEntry, Foreign, Memory}
+use Rattle.tas_engines.specs.declared.fault.RunFault.TheVariants.{Write, Size, Text, NoFrame as OffMovie, Range as OffRange, Halted as Stopped, HaltedFrame as StoppedFrame, Script, Place, Long, Names as NoNames, NoPlace, NoEntry, Foreign, Memory}
 use Rattle.tas_engines.specs.declared.fault.ToolFault.{ToolFault}
 use Rattle.tas_engines.specs.Faults.{reported}
 use Rattle.tas_engines.specs.Input.{IsReadWhole}
@@ -139,6 +139,7 @@ unanswered_leaves before now (Size n) is = absurd is
 unanswered_leaves before now (Text error) is = absurd is
 unanswered_leaves before now (OffMovie frame len) is = absurd is
 unanswered_leaves before now (OffRange from to len) is = absurd is
+unanswered_leaves before now (NoNames row kind) is = absurd is
 unanswered_leaves before now (Stopped at opcode) is = absurd is
 unanswered_leaves before now (StoppedFrame frame at opcode) is = absurd is
 unanswered_leaves before now (Script line) is = absurd is
@@ -158,6 +159,7 @@ desk_stop before now (Size n) turns rest clear is seen own = absurd is
 desk_stop before now (Text error) turns rest clear is seen own = absurd is
 desk_stop before now (OffMovie frame len) turns rest clear is seen own = absurd is
 desk_stop before now (OffRange from to len) turns rest clear is seen own = absurd is
+desk_stop before now (NoNames row kind) turns rest clear is seen own = absurd is
 desk_stop before now (Stopped at opcode) turns rest clear is seen own = absurd is
 desk_stop before now (StoppedFrame frame at opcode) turns rest clear is seen own = absurd is
 desk_stop before now (Script line) turns rest clear is seen own = absurd is

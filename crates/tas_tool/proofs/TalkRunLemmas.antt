@@ -15,7 +15,7 @@ use Rattle.tas_desk.specs.Zones.{ZoneContent}
 use Rattle.tas_engines.specs.Changes.{EditContent}
 use Rattle.tas_engines.specs.declared.fault.ReadFault.{ReadFault}
 use Rattle.tas_engines.specs.declared.fault.RunFault.{RunFault}
-use Rattle.tas_engines.specs.declared.fault.RunFault.TheVariants.{Write, Size, Text, NoFrame as OffMovie, Range as OffRange, Halted as Stopped, HaltedFrame as StoppedFrame, Script, Place, Long, NoPlace, NoEntry, Foreign, Memory}
+use Rattle.tas_engines.specs.declared.fault.RunFault.TheVariants.{Write, Size, Text, NoFrame as OffMovie, Range as OffRange, Halted as Stopped, HaltedFrame as StoppedFrame, Script, Place, Long, Names as NoNames, NoPlace, NoEntry, Foreign, Memory}
 use Rattle.tas_engines.specs.declared.fault.ToolFault.{ToolFault}
 use Rattle.tas_engines.specs.declared.fault.ToolFault.TheVariants.{Read, Run}
 use Rattle.tas_engines.specs.Input.{IsReadWhole, StopsReading}
@@ -63,6 +63,7 @@ unmade_talk start seat (Size n) input output is own = absurd is
 unmade_talk start seat (Text error) input output is own = absurd is
 unmade_talk start seat (OffMovie frame len) input output is own = absurd is
 unmade_talk start seat (OffRange from to len) input output is own = absurd is
+unmade_talk start seat (NoNames row kind) input output is own = absurd is
 unmade_talk start seat (Stopped at opcode) input output is own = absurd is
 unmade_talk start seat (StoppedFrame frame at opcode) input output is own = absurd is
 unmade_talk start seat (Script number) input output is own = absurd is

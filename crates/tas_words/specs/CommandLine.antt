@@ -172,7 +172,7 @@ first_shapes =
     ∷ shape_with (codes "shot") (cart_rule ∷ frame_rule (codes "K") ∷ [])
     ∷ shape_with (codes "film") (cart_rule ∷ may_frame_rule (codes "FROM") ∷ may_frame_rule (codes "TO") ∷ [])
     ∷ shape_with (codes "export") (cart_rule ∷ frame_rule (codes "FROM") ∷ frame_rule (codes "TO") ∷ number_rule (codes "WORKERS") 1 most_workers ∷ [])
-    ∷ shape_with (codes "ram") (cart_rule ∷ frame_rule (codes "FROM") ∷ frame_rule (codes "TO") ∷ [])
+    ∷ shape_with (codes "ram") (cart_rule ∷ frame_rule (codes "FROM") ∷ frame_rule (codes "TO") ∷ flag_rule (codes "NAMES") (codes "names") ∷ [])
     ∷ shape_with (codes "digest") (cart_rule ∷ may_number_rule (codes "EVERY") 1 most_every ∷ [])
     ∷ shape_with (codes "compare") (cart_rule ∷ file_rule (codes "OLD") ∷ [])
     ∷ shape_with (codes "lag") (cart_rule ∷ [])

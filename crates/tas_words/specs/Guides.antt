@@ -109,8 +109,8 @@ first_guides =
     (Some (codes "the movie is read from standard input: tas film game.bin 0 600 < game.movie > film.ppm")) (false ∷ true ∷ true ∷ []) []
     ∷ guide (codes "export") (codes "tas export <CART> <FROM> <TO> <WORKERS> < MOVIE")
     (Some (codes "the movie is read from standard input: tas export game.bin 0 600 4 < game.movie > film.ppm")) (false ∷ true ∷ true ∷ true ∷ []) []
-    ∷ guide (codes "ram") (codes "tas ram <CART> <FROM> <TO> < MOVIE")
-    (Some (codes "the movie is read from standard input: tas ram game.bin 1 61 < game.movie")) (false ∷ true ∷ true ∷ []) []
+    ∷ guide (codes "ram") (codes "tas ram [OPTIONS] <CART> <FROM> <TO> < MOVIE")
+    (Some (codes "the movie is read from standard input: tas ram game.bin 1 61 < game.movie")) (false ∷ true ∷ true ∷ []) (codes "names" ∷ [])
     ∷ guide (codes "digest") (codes "tas digest <CART> [EVERY] < MOVIE")
     (Some (codes "the movie is read from standard input: tas digest game.bin 600 < game.movie")) (false ∷ true ∷ []) []
     ∷ guide (codes "compare") (codes "tas compare <CART> <OLD> < MOVIE")

@@ -181,8 +181,9 @@ HasWords name rows (Film cart from to) =
 HasWords name rows (Export cart from to workers) =
     (name ≡ codes "export") × IsWord rows (codes "CART") cart.now × IsFrameWord rows (codes "FROM") from × IsFrameWord rows (codes "TO") to
     × IsNumberWord rows (codes "WORKERS") 1 most_workers workers
-HasWords name rows (Ram cart from to) =
+HasWords name rows (Ram cart from to names) =
     (name ≡ codes "ram") × IsWord rows (codes "CART") cart.now × IsFrameWord rows (codes "FROM") from × IsFrameWord rows (codes "TO") to
+    × IsOptionalWord rows (codes "NAMES") names
 HasWords name rows (Digest cart every) = (name ≡ codes "digest") × IsWord rows (codes "CART") cart.now × IsEvery rows every
 HasWords name rows (Compare cart old) = (name ≡ codes "compare") × IsWord rows (codes "CART") cart.now × IsWord rows (codes "OLD") old.now
 HasWords name rows (Lag cart) = (name ≡ codes "lag") × IsWord rows (codes "CART") cart.now

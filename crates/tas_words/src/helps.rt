@@ -166,10 +166,15 @@ Standard output has a line 'K DIGITS' for each K from FROM to TO - 1: the 128 by
 frames from power-on, addresses 80 to FF, as 256 upper case hexadecimal digits. K is a number of
 frames: 0 is power-on, and TO is at most the movie's length plus one. Frame K - 1 is the last one
 that is played before line K.
+With --names standard output is a table instead, for spreadsheets and plots: a head line 'frames
+played,NAME,..', and for each K a line of K and the bytes with these names, in decimal digits, with
+commas between. NAMES has a name and an address in each line, as 'x 85' ('tas help search').
 
-Example, address 80 after each of the first ten frames:
+Example, address 80 after each of the first ten frames, and the same as a table:
   examples/cart joystick > joystick.bin
-  ./tas ram joystick.bin 1 11 < examples/joystick.movie | awk '{ print $1, substr($2, 1, 2) }'";
+  ./tas ram joystick.bin 1 11 < examples/joystick.movie | awk '{ print $1, substr($2, 1, 2) }'
+  echo 'height 80' > joystick.names
+  ./tas ram joystick.bin 1 11 --names joystick.names < examples/joystick.movie > height.csv";
 
 pub(crate) const DIGEST_HELP: &str = "\
 Standard input is the movie text, as for 'tas check'.

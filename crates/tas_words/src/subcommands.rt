@@ -225,7 +225,7 @@ static FIRST_SUBCOMMANDS: [Subcommand; 10] = [
     },
     Subcommand {
         name: "ram",
-        usage: "tas ram <CART> <FROM> <TO> < MOVIE",
+        usage: "tas ram [OPTIONS] <CART> <FROM> <TO> < MOVIE",
         tip: Some("the movie is read from standard input: tas ram game.bin 1 61 < game.movie"),
         about: "Writes the RAM after some numbers of frames of a movie, a line for each",
         help: RAM_HELP,
@@ -240,6 +240,14 @@ static FIRST_SUBCOMMANDS: [Subcommand; 10] = [
                 name: "TO",
                 help: "The number after the last one",
                 kind: FRAME,
+            },
+            Word {
+                name: "NAMES",
+                help: "The file with names of addresses, for a table of their bytes",
+                kind: WordKind::Flag {
+                    flag: "names",
+                    other: "TO",
+                },
             },
         ],
     },

@@ -239,6 +239,8 @@ pub enum Task<'a> {
         from: usize,
         /// The number after the last one, up to 9,999,999.
         to: usize,
+        /// The name of the file with the names of addresses, for a table of their bytes; all bytes are written if not given.
+        names: Option<&'a str>,
     },
     /// Write the digest of what the movie on standard input plays.
     Digest {

@@ -271,6 +271,7 @@ fn frames_task<'a>(name: &str, words: &ArgMatches<'a>) -> Option<Task<'a>>
             cart: word_of(words, "CART")?,
             from: frame_of(words, "FROM")?,
             to: frame_of(words, "TO")?,
+            names: word_of(words, "NAMES"),
         }),
         "digest" => Some(Task::Digest {
             cart: word_of(words, "CART")?,
@@ -345,7 +346,7 @@ pub fn read_words<'a, A: Allocator>(
     // Refused: script_is_the_cartridges_file*, half_of_the_frame_is_asked*, film_starts_at_its_end*,
     // number_that_is_said_is_left_out*, every_is_600_whatever_is_said,
     // digest_is_of_single_frames_where_nothing_is_said*, second_movie_is_left_out*, names_file_is_the_choices_file,
-    // states_are_the_frames_of_a_choice, line_of_until_is_left_out, image_of_a_recovery_is_left_out, search_goes_one_frame_far*, files_of_a_script_are_swapped,
+    // names_of_a_table_are_left_out, states_are_the_frames_of_a_choice, line_of_until_is_left_out, image_of_a_recovery_is_left_out, search_goes_one_frame_far*, files_of_a_script_are_swapped,
     // conversation_over_a_movie_begins_without_it, conversation_has_no_journal, desk_has_no_journal, movie_of_a_desk_is_its_cartridge, names_of_a_pair_are_swapped,
     // answers_without_lines_are_left_out, first_names_of_two_pairs_are_swapped, seventh_pair_is_read_twice,
     // part_0_is_read, part_past_the_last_is_read, last_part_is_refused, numbers_of_a_part_are_swapped,

@@ -46,10 +46,10 @@ pub returns-in-Export : goal.returns-in-Export
 returns-in-Export g c = rw c.in-Export.is (record { done = c.run_export.result; is = c.ended-in-Export.ensures; ends = c.run_export.ensures })
 
 pub returns-in-Ram : goal.returns-in-Ram
-returns-in-Ram g c = rw c.in-Ram.is c.run_named.ensures
+returns-in-Ram g c = rw c.in-Ram.is c.run_ram.ensures
 
 pub returns-in-Digest : goal.returns-in-Digest
-returns-in-Digest g c = rw c.in-Digest.is c.run_named-in-Digest.ensures
+returns-in-Digest g c = rw c.in-Digest.is c.run_named.ensures
 
 pub returns-in-Compare : goal.returns-in-Compare
 returns-in-Compare g c = rw c.in-Compare.is c.run_named-in-Compare.ensures

@@ -1,7 +1,7 @@
 use Rattle.std.proofs.lemmas.Grind.{common_steps}
 use Rattle.std.proofs.Common.{[], ◌∷◌, ◌++◌, ap, ◌∙◌, arith}
+use Rattle.tas_engines.specs.Names.{names_of}
 use Rattle.tas_search.specs.declared.word.Word.{Word}
-use Rattle.tas_search.specs.Words.{names_of}
 use Rattle.tas_search.proofs.TextLemmas.{word_read, last_word}
 use Rattle.tas_search.proofs.reading_words.words_in.Goals as goal
 

@@ -1,5 +1,6 @@
 use Rattle.std.proofs.Common.{◌≡◌, ◌++◌, length}
-use Rattle.tas_search.specs.Words.{words_in, names_of}
+use Rattle.tas_engines.specs.Names.{names_of}
+use Rattle.tas_search.specs.Words.{words_in}
 use Rattle.tas_search.proofs.reading_words.words_in.Given as goal
 
 abbrev pub invariant-loop-first : goal.invariant-loop-first

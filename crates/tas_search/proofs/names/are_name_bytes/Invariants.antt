@@ -1,7 +1,0 @@
-use Rattle.std.proofs.Common.{◌≡◌, true, take}
-use Rattle.std.specs.List.{list_all}
-use Rattle.tas_search.specs.NamesFile.{is_name_byte}
-use Rattle.tas_search.proofs.names.are_name_bytes.Given as goal
-
-abbrev pub invariant-loop-byte : goal.invariant-loop-byte
-invariant-loop-byte l = list_all is_name_byte (take l.byte-index l.bytes) ≡ true
