@@ -27,7 +27,7 @@ class Editor:
         words = self.child.stdout.readline().decode().split()
         if not words:
             sys.exit(self.child.wait())  # the child has ended, and its fault line says why
-        count = int(words[-1]) if words[:1] in (["picture"], ["lag"], ["movie"], ["history"]) else 0
+        count = int(words[-1]) if words[:1] in (["picture"], ["lag"], ["inputs"], ["movie"], ["history"]) else 0
         return words, self.child.stdout.read(count)
 
     def quit(self):

@@ -5,10 +5,13 @@ Written from docs/FORMATS.md, "Script" and "Conversation". The model of edits is
 
 import importlib.machinery
 import importlib.util
+import itertools
 import pathlib
 import re
 from collections import namedtuple
 from hashlib import sha256
+
+import machine
 
 HERE = pathlib.Path(__file__).resolve().parent
 
@@ -27,9 +30,10 @@ LONGEST_LINE = 16384
 PART = re.compile(r"([0-9A-F]{3})=((?:[0-9A-F]{2})+)")
 EDITS = ("insert", "replace", "delete", "press", "release", "repeat", "copy")
 SIZES = {"load": 4096, "load2": 2048}
-NUMBERS = {"input": 1, "shot": 1, "work": 1, "picture": 1, "ram": 1, "digest": 1, "history": 1, "lag": 2, "pictures": 2,
-           "len": 0, "movie": 0, "states": 0, "share": 0, "begin": 0, "commit": 0, "drop": 0}
-WITHOUT_AT = ("work", "unknown", "out", "dropped", "in")
+NUMBERS = {"input": 1, "shot": 1, "work": 1, "picture": 1, "ram": 1, "digest": 1, "history": 1, "lag": 2, "pictures": 2, "inputs": 2,
+           "len": 0, "movie": 0, "states": 0, "share": 0, "version": 0, "begin": 0, "commit": 0, "drop": 0}
+WITHOUT_AT = ("work", "version", "unknown", "out", "dropped", "in")
+VERSION = "version 0.3.0 profile %d format 1 bytes picture lag inputs movie history" % machine.PROFILE
 
 Movie = namedtuple("Movie", "cart frames")
 Said = namedtuple("Said", "kind numbers frame")
@@ -76,9 +80,19 @@ def understood(line):
     if kind not in NUMBERS:
         return None
     found = hands.numbers(line.split(" ")[1:], NUMBERS[kind])
-    if found is None or kind == "pictures" and not 1 <= found[1] - found[0] <= 1024:
+    if found is None or kind in ("pictures", "inputs") and not 1 <= found[1] - found[0] <= 1024:
         return None
     return Said(kind, found, None)
+
+
+def why_unknown(line):
+    """Why a line that a newline ends isn't understood, where it isn't."""
+    if len(line) > LONGEST_LINE:
+        return "long"
+    if line.endswith("\r"):
+        return "return"
+    word = line.split(" ")[0]
+    return "rest" if word == "quit" or word in NUMBERS or word in EDITS or word in SIZES else "word"
 
 
 def image_of(kind, parts):
@@ -106,6 +120,16 @@ def stride(length):
     while length // step > 512:
         step *= 2
     return step
+
+
+def runs_text(place, frames):
+    """The runs of equal frames, a line each with its place, its count and its frame."""
+    lines = []
+    for frame, run in itertools.groupby(frames):
+        count = len(list(run))
+        lines.append("%d %d %s\n" % (place, count, frame))
+        place += count
+    return "".join(lines)
 
 
 def at_of(words):
@@ -173,11 +197,11 @@ class Answers:
         said = understood(line)
         if said is None:
             self.counts["not understood"] += 1
-            self.expect(number, line, head, "unknown")
+            self.expect(number, line, head, "unknown " + why_unknown(line))
             return
         kind = said.kind
         self.counts[kind] += 1
-        if head in ("unknown", "out of memory"):
+        if head.split(" ")[0] == "unknown" or head == "out of memory":
             self.differ(number, line, head, "an answer, since it is understood")
             return
         if kind in EDITS or kind == "load":
@@ -209,6 +233,16 @@ class Answers:
         if self.is_there(number, line, head, at, frame):
             self.expect(number, line, head, "input %d %s" % (at, self.now.frames[frame]))
 
+    def of_inputs(self, number, line, head, body, at, first, last):
+        if last > len(self.now.frames):
+            self.expect(number, line, head, "no frame %d len %d" % (at, len(self.now.frames)))
+            self.counts["no frame"] += 1
+            return
+        text = runs_text(first, self.now.frames[first:last])
+        self.expect(number, line, head, "inputs %d %d %d %d" % (at, first, last, len(text)))
+        if body != text:
+            self.differ(number, line, head + "\n" + str(body), "the runs of these inputs:\n%s" % text)
+
     def movie_text(self):
         if self.text is None:
             self.text = hands.movie_text(self.now.cart, self.now.frames).decode()
@@ -232,6 +266,9 @@ class Answers:
         match = re.fullmatch(r"share (\d+) (\d+)", head)
         if not match or int(match.group(2)) > most:
             self.differ(number, line, head, "share %d and at most %d" % (at, most))
+
+    def of_version(self, number, line, head, _body, _at):
+        self.expect(number, line, head, VERSION)
 
     def of_work(self, number, line, head, _body, _at, _frame):
         match = re.fullmatch(r"work jobs 1 kept (\d+) stale ([01])", head)

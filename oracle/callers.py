@@ -47,8 +47,8 @@ FORM = "RLDUF RLDUF rsbAB"
 NOTHING = machine.NOTHING
 KINDS = {
     "insert": 17, "replace": 12, "delete": 9, "press": 6, "release": 4, "repeat": 3, "copy": 4, "load": 0.1,
-    "len": 9, "input": 11, "shot": 3, "picture": 1.2, "pictures": 0.15, "ram": 5, "digest": 2, "lag": 2,
-    "work": 1.5, "share": 2, "states": 1, "movie": 0.4, "history": 4, "spoilt": 1.5,
+    "len": 9, "input": 11, "shot": 3, "picture": 1.2, "pictures": 0.15, "ram": 5, "digest": 2, "lag": 2, "inputs": 2,
+    "work": 1.5, "share": 2, "states": 1, "movie": 0.4, "history": 4, "version": 0.5, "spoilt": 1.5,
     "begin": 2, "commit": 0.3, "drop": 0.3,
 }
 LONGEST_DRAFT = 12
@@ -159,11 +159,15 @@ class Lines:
     commit = drop = end_of_draft
 
     def look(self, kind):
-        return kind if kind in ("len", "share", "states", "movie") else "%s %d" % (kind, self.place())
+        return kind if kind in ("len", "share", "states", "movie", "version") else "%s %d" % (kind, self.place())
 
     def pictures(self):
         first = self.place()
         return "pictures %d %d" % (first, first + self.rng.randint(0, 4))
+
+    def inputs(self):
+        first = self.place()
+        return "inputs %d %d" % (first, first + self.rng.choice((1, 2, self.rng.randint(1, 200), 1024)))
 
     def lag(self):
         first = self.place()
@@ -188,7 +192,7 @@ class Lines:
 
 # ---- answers
 
-BODIES = ("picture", "lag", "movie", "history")
+BODIES = ("picture", "lag", "inputs", "movie", "history")
 
 
 def heads_of(line):

@@ -180,6 +180,13 @@ class Holder:
     def of_input(self, side, frame):
         return "input %d %s" % (side.at, side.movie.frames[frame]) if frame < side.length() else self.no_frame(side)
 
+    def of_inputs(self, side, first, last):
+        side.kept.share(side.movie)
+        if last > side.length():
+            return self.no_frame(side)
+        text = answers.runs_text(first, side.movie.frames[first:last])
+        return "inputs %d %d %d %d\n%s" % (side.at, first, last, len(text), text)
+
     def of_movie(self, side):
         text = hands.movie_text(*side.movie).decode()
         side.kept.share(side.movie)
@@ -197,6 +204,9 @@ class Holder:
         told = self.edits[first:first + answers.told_at_once(entries)]
         text = "".join("%d 0 %s\n" % (number, line) for number, lines in enumerate(told, first) for line in lines)
         return "history %d %d %d %d\n%s" % (self.main.at, first, len(told), len(text), text)
+
+    def of_version(self, _side):
+        return answers.VERSION
 
     def of_begin(self, side):
         if self.draft:
@@ -251,7 +261,7 @@ class Holder:
         return "".join(head if head.startswith("picture ") else head + "\n" for head in heads)
 
     def of_digest(self, side, frame):
-        return self.shown(side, frame, frame, lambda movie, _: "digest %d %d ram %s picture %s" % (
+        return self.shown(side, frame, frame + 1, lambda movie, _: "digest %d %d ram %s picture %s" % (
             side.at, frame, sha256(movie.ram_after(frame + 1)).hexdigest(), sha256(movie.pixmap(frame)).hexdigest()))
 
     def of_ram(self, side, count):
@@ -289,12 +299,12 @@ def conversed(holder, text, seen):
     lines, out = text.decode("latin-1").split("\n"), []
     for place, line in enumerate(lines):
         if place == len(lines) - 1:
-            out += ["unknown\n"] if line else []
+            out += ["unknown end\n"] if line else []
         elif line == "quit":
             seen["quit"] += 1
             break
         else:
-            answer = holder.answer(line) or "unknown"
+            answer = holder.answer(line) or "unknown " + answers.why_unknown(line)
             seen["talk " + kind_of(answer)] += 1
             out.append(whole(answer))
     return "".join(out).encode("latin-1")

@@ -224,7 +224,7 @@ def some_look(rng, length, is_script):
     if is_script or rng.random() < 0.3:
         return rng.choice(("shot %d", "work %d")) % frame
     return rng.choice(("picture %d" % frame, "ram %d" % frame, "digest %d" % frame, "lag %d %d" % (frame, other),
-                       "pictures %d %d" % (frame, wide)))
+                       "pictures %d %d" % (frame, wide), "inputs %d %d" % (frame, max(wide, frame + rng.randint(0, 70)))))
 
 
 def keeping_line(rng, length, is_script):
@@ -242,7 +242,7 @@ def keeping_line(rng, length, is_script):
         return "shot %d" % place
     if way < 0.65:
         return rng.choice(("shot %d", "picture %d", "ram %d", "digest %d", "lag %d " + str(place + 1))) % place
-    return rng.choice(("states", "share", "movie", "states", "share", "begin", "begin", "commit", "drop"))
+    return rng.choice(("states", "share", "movie", "states", "share", "version", "begin", "begin", "commit", "drop"))
 
 
 def edit_at(rng, place, is_script):
@@ -285,7 +285,7 @@ def some_line(rng, length, at, is_script):
 def broken_line(rng):
     """A line that isn't understood, but for a little."""
     return rng.choice((
-        "%s %s" % (rng.choice(("input", "shot", "work", "ram", "history")), rng.choice(("10000000", "01", "+1", "-1", "", "0 0", "0.", "9999999"))), "pictures 9 9", "pictures 5 4",
+        "%s %s" % (rng.choice(("input", "shot", "work", "ram", "history")), rng.choice(("10000000", "01", "+1", "-1", "", "0 0", "0.", "9999999"))), "pictures 9 9", "pictures 5 4", "inputs 9 9", "inputs 0 1025",
         "load 000=0a", "load 000=", "load 000=0", "load 000=00a", "load2 7FF=0000", "load2 800=00", "load2 FFF=00", "load", "load2", "len 0", "len ", "movie 0", "begin 0",
         "delete 0", "delete 00 0", "delete 0 0 0", "insert 0 1 ..... ..... ....", "insert 0 1 ..... ..... ..... ", "insert 0 1 .....  .... .....", "insert 0 1 L.... ..... .....",
         "replace 0 01 ..... ..... .....", "copy other 0 0 0", "copy 0 0", "repeat 0 0", "press 0 0", "lag 0", "pictures 0", "quit 0", "check", "insert 0 1 r.... ..... ....."))

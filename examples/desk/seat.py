@@ -3,7 +3,7 @@ import os
 import re
 import socket
 
-FOLLOWED = ("picture", "lag", "movie", "history")  # bytes follow these answers; the last word is their number
+FOLLOWED = ("picture", "lag", "inputs", "movie", "history")  # bytes follow these answers; the last word is their number
 
 
 class Seat:

@@ -1,5 +1,5 @@
 // This page's conversation with the desk: lines go out, answers come back.
-const FOLLOWED = ["picture", "lag", "movie", "history"]; // bytes follow these answers; the last word is their number
+const FOLLOWED = ["picture", "lag", "inputs", "movie", "history"]; // bytes follow these answers; the last word is their number
 const decoder = new TextDecoder();
 let lease;
 

@@ -13,6 +13,11 @@ fn growths_of_line<T: Wait + Abort>(rt: &T, alloc: Global, len: usize) -> u64 {
     let mut line = expect_ok(rt, Vec::with_capacity(alloc, len.saturating_add(1)));
     expect_ok(rt, line.resize(len, b'x'));
     expect_ok(rt, line.push(b'\n'));
+    let wanted: &[u8] = if len > 16_384 {
+        b"unknown long\n"
+    } else {
+        b"unknown word\n"
+    };
     for number in 1..MOST {
         let heap = Refusing::new(alloc, number);
         let mut input = line.as_slice();
@@ -20,11 +25,7 @@ fn growths_of_line<T: Wait + Abort>(rt: &T, alloc: Global, len: usize) -> u64 {
         let end = talk_run(rt, &heap, &mut input, &mut output).end;
         if !heap.has_refused() {
             check_same(rt, ("end", len), end, Ok(()));
-            check_that(
-                rt,
-                ("answer", len),
-                output.as_slice() == b"unknown\n".as_slice(),
-            );
+            check_that(rt, ("answer", len), output.as_slice() == wanted);
             return number - 1;
         }
     }

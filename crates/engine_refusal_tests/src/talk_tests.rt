@@ -14,11 +14,12 @@ use tas_tool::talk_run;
 const MADE: &[u8] = b"load 000=A9028500A90085004C00F0 FFC=00F0\ninsert 0 3 R.... ..... .....\n";
 
 /// Looks at it.
-static LOOKS: [&[u8]; 9] = [
+static LOOKS: [&[u8]; 10] = [
     b"picture 1\n",
     b"ram 3\n",
     b"digest 1\n",
     b"lag 0 2\n",
+    b"inputs 0 2\n",
     b"history 0\n",
     b"movie\n",
     b"states\n",
@@ -207,25 +208,27 @@ static DRAFTED: [Row; 6] = [LOAD, INSERT, (b"work 64\n", WORKED), BEGIN, STATES,
 /// A line, its ways, and the last answer of a conversation about it.
 type About = (&'static [u8], &'static [Refusal], &'static [u8]);
 
-/// Lines about the movie. All but the last one pass its first 64 frames.
-static ABOUT_MOVIE: [About; 7] = [
+/// Lines about the movie. All but the last two pass its first 64 frames.
+static ABOUT_MOVIE: [About; 8] = [
     (b"shot 63\n", CALL, b"states 2 1 64\n"),
     (b"picture 63\n", PLAYED, b"states 2 1 64\n"),
     (b"ram 64\n", PLAYED, b"states 2 1 64\n"),
-    (b"digest 66\n", PLAYED, b"states 2 1 64\n"),
+    (b"digest 63\n", PLAYED, b"states 2 1 64\n"),
     (b"lag 66 68\n", PLAYED, b"states 2 1 64\n"),
     (b"work 70\n", WORKED, b"states 2 1 64\n"),
     (b"share\n", CALL, b"states 2 0\n"),
+    (b"inputs 3 9\n", SHOWN, b"states 2 0\n"),
 ];
 
 /// Lines about the draft.
-static ABOUT_DRAFT: [About; 8] = [
+static ABOUT_DRAFT: [About; 9] = [
     (b"shot 127\n", CALL, b"states 3 2 64 128\n"),
     (b"picture 127\n", PLAYED, b"states 3 2 64 128\n"),
     (b"ram 128\n", TOLD, b"states 3 2 64 128\n"),
-    (b"digest 130\n", TOLD, b"states 3 2 64 128\n"),
+    (b"digest 127\n", PLAYED, b"states 3 2 64 128\n"),
     (b"lag 130 132\n", TOLD, b"states 3 2 64 128\n"),
     (b"work 192\n", CALL, b"states 3 3 64 128 192\n"),
+    (b"inputs 3 9\n", SHOWN, b"states 3 1 64\n"),
     (b"movie\n", SHOWN, b"states 3 1 64\n"),
     (b"states\n", SHOWN, b"states 3 1 64\n"),
 ];
@@ -359,6 +362,15 @@ fn begins_copy_states(rt: HostRuntime) {
     let alloc = rt.alloc();
     check_same(&rt, "no state", times_not_begun(&rt, alloc, b"shot 3\n"), 6);
     check_same(&rt, "states", times_not_begun(&rt, alloc, b"shot 191\n"), 6);
+}
+
+/// A `version` takes memory for its answer alone, outside a draft and in one.
+#[test]
+fn versions_without_memory(rt: HostRuntime) {
+    let alloc = rt.alloc();
+    let version: About = (b"version\n", BRIEF, b"len 2 200\n");
+    check_all(&rt, alloc, &LONG, &[version], &[LENGTH]);
+    check_all(&rt, alloc, &[LOAD, INSERT, BEGIN], &[version], &[LENGTH]);
 }
 
 /// A `share` after an edit copies the movie, and may be out of memory then. In a draft only its answer takes memory, since `begin` has made

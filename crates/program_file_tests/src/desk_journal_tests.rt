@@ -226,7 +226,7 @@ static ENDS: [Case<'static>; 5] = [
     Case {
         words: TWO_PAIRS,
         clients: &[ASKING, EDITING],
-        answers: &[b"unknown\n", BOTH],
+        answers: &[b"unknown word\n", BOTH],
         journal: SECONDS,
         opened: 6,
         ..BOTH_EDITS
@@ -317,7 +317,7 @@ static FAILURES: [Case<'static>; 11] = [
         disk: Disk { room: 215, ..AMPLE },
         clients: &[ASKING, EDITING],
         end: (1, ONE_FRAME, b"fault: seat 1: journal: write failed\n"),
-        answers: &[b"unknown\n", b""],
+        answers: &[b"unknown word\n", b""],
         journal: SECONDS,
         kept: 215,
         opened: 6,

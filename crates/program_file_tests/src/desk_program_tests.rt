@@ -100,7 +100,7 @@ static CASES: [Case<'static>; 11] = [
     Case {
         clients: &[WRONG],
         output: ONE_FRAME,
-        answers: &[b"unknown\n"],
+        answers: &[b"unknown end\n"],
         ..PUSH
     },
     Case {

@@ -7,8 +7,8 @@ use std::alloc::Global;
 use std::process::Abort;
 use tas_engines::edit_of;
 use tas_language::{
-    Command, MAX_LINE, Request, after_prefix, history_answer, parse_line, parse_request,
-    push_edit_lines, push_entry, share_answer,
+    Command, MAX_LINE, Request, after_prefix, history_answer, inputs_answer, parse_line,
+    parse_request, push_edit_lines, push_entry, share_answer, version_answer,
 };
 use tas_movie::{Edit, Inputs, Movie, apply, check, read_frame};
 use vcs_machine::{CART_SIZE, Cart, SMALL_CART_SIZE};
@@ -212,7 +212,7 @@ static HISTORIES: [(&[u8], usize); 4] = [
 ];
 
 /// Lines that ask for nothing.
-static NO_REQUESTS: [&[u8]; 14] = [
+static NO_REQUESTS: [&[u8]; 23] = [
     b"share ",
     b" share",
     b"share 1",
@@ -227,12 +227,23 @@ static NO_REQUESTS: [&[u8]; 14] = [
     b"history 1 ",
     b"history 10000000",
     b"historys 1",
+    b"version ",
+    b"version 1",
+    b"versions",
+    b"inputs 3",
+    b"inputs 3 3",
+    b"inputs 4 3",
+    b"inputs 3 1028",
+    b"inputs 3  4",
+    b"inputs 3 4 5",
 ];
 
 #[test]
-fn share_and_history_are_requests(rt: HostRuntime) {
+fn share_history_and_version_are_requests(rt: HostRuntime) {
     let is_share = matches!(parse_request(b"share"), Some(Request::Share));
     check_that(&rt, "share", is_share);
+    let is_version = matches!(parse_request(b"version"), Some(Request::Version));
+    check_that(&rt, "version", is_version);
     for (line, wanted) in HISTORIES.iter() {
         let found = match parse_request(line) {
             Some(Request::History { from }) => Some(from),
@@ -245,10 +256,30 @@ fn share_and_history_are_requests(rt: HostRuntime) {
     }
 }
 
+/// Lines, and the frames whose inputs they ask for: one at least, and 1,024 at most.
+static INPUTS: [(&[u8], (usize, usize)); 3] = [
+    (b"inputs 0 1", (0, 1)),
+    (b"inputs 3 1027", (3, 1027)),
+    (b"inputs 9998975 9999999", (9_998_975, 9_999_999)),
+];
+
+#[test]
+fn inputs_are_asked_for_by_their_frames(rt: HostRuntime) {
+    for (line, wanted) in INPUTS.iter() {
+        let found = match parse_request(line) {
+            Some(Request::Inputs { from, to }) => Some((from, to)),
+            _ => None,
+        };
+        check_same(&rt, *line, found, Some(*wanted));
+    }
+}
+
 #[test]
 fn no_script_has_these_lines(rt: HostRuntime) {
     check_that(&rt, "share", parse_line(b"share").is_none());
     check_that(&rt, "history", parse_line(b"history 0").is_none());
+    check_that(&rt, "version", parse_line(b"version").is_none());
+    check_that(&rt, "inputs", parse_line(b"inputs 0 1").is_none());
 }
 
 #[test]
@@ -260,6 +291,14 @@ fn answers_are_a_line_and_the_entries(rt: HostRuntime) {
         "share",
         share.as_slice() == b"share 12 34\n".as_slice(),
     );
+    let version = expect_ok(&rt, version_answer(alloc, 7));
+    let numbers: &[u8] =
+        b"version 0.3.0 profile 7 format 1 bytes picture lag inputs movie history\n";
+    check_that(&rt, "version", version.as_slice() == numbers);
+    let three = inputs_of(&rt, alloc, "..F");
+    let inputs = expect_ok(&rt, inputs_answer(alloc, 4, 99, 102, three.as_slice()));
+    let runs: &[u8] = b"inputs 4 99 102 47\n99 2 ..... ..... .....\n101 1 ....F ..... .....\n";
+    check_that(&rt, "inputs", inputs.as_slice() == runs);
     let none = expect_ok(&rt, history_answer(alloc, 5, 7, 0, b""));
     check_that(
         &rt,

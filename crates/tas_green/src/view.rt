@@ -9,7 +9,7 @@
 //! compares the inputs and goes by the exact common front, not by the places of the edits between: an edit that is
 //! undone before the next look costs no state. Looks make their own meters and return how many frames they played.
 
-ghost use Rattle.std.specs.Prelude.{◌≡◌, ◌≢◌, ◌↔◌, IsErr, take, ◌⊎◌, ℕ, ◌+◌, ◌<◌, ◌≤◌, [], length, min, nat_le, filter, is_some, true, IsSome, IfOk, OnOk, OnErr};
+ghost use Rattle.std.specs.Prelude.{◌≡◌, ◌≢◌, ◌↔◌, IsErr, take, ◌⊎◌, ℕ, ◌+◌, ◌<◌, ◌≤◌, [], length, min, nat_le, filter, is_some, true, IsSome, IfNone, IfSome, IfOk, OnOk, OnErr};
 ghost use Rattle.tas_movie.specs.Front.{IsCommonFront};
 ghost use Rattle.tas_green.specs.Run.{state_after, picture_of, answer_of};
 ghost use Rattle.tas_green.specs.Green.{HoldsGrid, IsLawful, IsShotFrom, is_left};
@@ -30,7 +30,7 @@ use std::marker::Model;
 use std::mem::size_of;
 use tas_movie::{Edit, EditRefusal, Movie, apply, check};
 use thiserror::Error;
-use vcs_machine::Meter;
+use vcs_machine::{Meter, State};
 use vcs_tia::Picture;
 
 /// Room for the kept states, and for one more: that is easier to show than that a state to be put is there already.
@@ -285,6 +285,29 @@ impl<A: Allocator> View<A> {
             &mut self.near,
             picture,
         ))
+    }
+
+    /// The machine after frame `k`, if the movie has this frame and a picture of the next one would be played from its end, as it is once frame
+    /// `k` was shown. Nothing is played for it.
+    pub fn after_frame(&self, k: usize) -> Option<State>
+        // The machine after a frame is returned just where the movie has the frame and no frame must be played for it.
+        // Refused: machine_after_a_frame_is_that_before_it.
+        ensures some { IfSome result (λ state. (k < length self.now.movie.inputs)
+            × IsOneAway self.now.movie (k + 1) (both_of self.now)
+            × (state ≡ state_after self.now.movie (k + 1))) }
+        ensures none { IfNone result (k < length self.now.movie.inputs
+            → IsOneAway self.now.movie (k + 1) (both_of self.now) → ⊥) }
+    {
+        if k >= self.movie.len() {
+            return None;
+        }
+        let end = k + 1;
+        let near = self.near.as_slice();
+        let start = start_of(&self.movie, self.states.as_slice(), near, end);
+        if start.frame != end {
+            return None;
+        }
+        Some(start.state.unpack())
     }
 
     /// Makes an edit, where the movie allows it: the states up to the edited place are left, those kept on the grid of the new length. It

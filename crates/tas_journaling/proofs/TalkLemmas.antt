@@ -19,7 +19,7 @@ use Rattle.tas_engines.specs.declared.fault.ToolFault.TheVariants.{Read, Run, Se
 use Rattle.tas_engines.specs.declared.fault.ReadFault.TheVariants.{Failed}
 use Rattle.tas_language.specs.declared.request.Request.{Request}
 use Rattle.tas_language.specs.Requests.{IsHeard}
-use Rattle.tas_language.specs.Answers.{unknown_text}
+use Rattle.tas_language.specs.Unheard.{why_unheard, unknown_text}
 use Rattle.tas_seat.specs.Conversations.{TalkingSeat, talking, IsTalkAnswered}
 use Rattle.tas_seat.specs.Drafts.{DraftContent}
 use Rattle.tas_seat.specs.Outcomes.{HasNoTalkAnswer, IsLook}
@@ -63,25 +63,25 @@ known_turn {A} {J} {notes} laws before now old new said told size next output ou
   up_all notes laws (may_edit (is_some before.draft) request) before.seat now.seat old new keeps,
 )
 
-pub unknown_turn : {A J : Type 0} {notes : NoteFacts A J} (laws : AreNoteLaws notes) (seat : TalkingSeat A) (journal : J) (said : List ℕ) (told written : ℕ) (output output' : Option (List ℕ)) → NoByte 10 said → IsHeard said None → Appends output output' unknown_text
-    → written ≡ min (told + length unknown_text) most_counted → IsNotedTurn notes seat seat journal journal said told output output' (Ok (Some written))
-unknown_turn {A} {J} {notes} laws seat journal said told written output output' none heard out count =
-    (seat.seat, unknown_line seat said unknown_text told written output output' none heard refl out count, keeps_same seat.seat, same_all notes seat.seat journal journal refl)
+pub unknown_turn : {A J : Type 0} {notes : NoteFacts A J} (laws : AreNoteLaws notes) (seat : TalkingSeat A) (journal : J) (said text : List ℕ) (told written : ℕ) (output output' : Option (List ℕ)) → NoByte 10 said → IsHeard said None → text ≡ unknown_text (why_unheard said)
+    → Appends output output' text → written ≡ min (told + length text) most_counted → IsNotedTurn notes seat seat journal journal said told output output' (Ok (Some written))
+unknown_turn {A} {J} {notes} laws seat journal said text told written output output' none heard is out count =
+    (seat.seat, unknown_line seat said text told written output output' none heard is out count, keeps_same seat.seat, same_all notes seat.seat journal journal refl)
 
-pub unknown_broken : {A J : Type 0} {notes : NoteFacts A J} (laws : AreNoteLaws notes) (seat : TalkingSeat A) (journal : J) (said : List ℕ) (told sent : ℕ) (output output' : Option (List ℕ)) → NoByte 10 said → IsHeard said None → IsCutOff output output' unknown_text sent
-    → IsNotedTurn notes seat seat journal journal said told output output' (Err (counted_fault (answer.Write sent) told))
-unknown_broken {A} {J} {notes} laws seat journal said told sent output output' none heard cut = λ more.
-    let broken = unknown_cut seat said unknown_text told output output' (Write (min (told + sent) most_counted)) none heard refl (sent, cut, refl) more in
+pub unknown_broken : {A J : Type 0} {notes : NoteFacts A J} (laws : AreNoteLaws notes) (seat : TalkingSeat A) (journal : J) (said text : List ℕ) (told sent : ℕ) (output output' : Option (List ℕ)) → NoByte 10 said → IsHeard said None → text ≡ unknown_text (why_unheard said)
+    → IsCutOff output output' text sent → IsNotedTurn notes seat seat journal journal said told output output' (Err (counted_fault (answer.Write sent) told))
+unknown_broken {A} {J} {notes} laws seat journal said text told sent output output' none heard is cut = λ more.
+    let broken = unknown_cut seat said text told output output' (Write (min (told + sent) most_counted)) none heard is (sent, cut, refl) more in
     record { left_at = seat.seat; edits = broken.0; breaks = broken.1; shown = keeps_same seat.seat; noted = same_all notes seat.seat journal journal refl }
 
-pub unknown_answered : {A J : Type 0} {notes : NoteFacts A J} (laws : AreNoteLaws notes) (seat : TalkingSeat A) (journal : J) (said : List ℕ) (told : ℕ) (output output' : Option (List ℕ)) (result : Result (Option ℕ) TalkFault) → NoByte 10 said → IsHeard said None
-    → OnOk result (Appends output output' unknown_text) → IfOk result (λ written. written ≡ Some (min (told + length unknown_text) most_counted))
-    → IfErr result (λ fault. (sent : ℕ) × IsCutOff output output' unknown_text sent × (fault ≡ counted_fault (answer.Write sent) told)) → IsNotedTurn notes seat seat journal journal said told output output' result
-unknown_answered {A} {J} {notes} laws seat journal said told output output' (Ok written) none heard out count fault =
+pub unknown_answered : {A J : Type 0} {notes : NoteFacts A J} (laws : AreNoteLaws notes) (seat : TalkingSeat A) (journal : J) (said text : List ℕ) (told : ℕ) (output output' : Option (List ℕ)) (result : Result (Option ℕ) TalkFault) → NoByte 10 said → IsHeard said None
+    → text ≡ unknown_text (why_unheard said) → OnOk result (Appends output output' text) → IfOk result (λ written. written ≡ Some (min (told + length text) most_counted))
+    → IfErr result (λ fault. (sent : ℕ) × IsCutOff output output' text sent × (fault ≡ counted_fault (answer.Write sent) told)) → IsNotedTurn notes seat seat journal journal said told output output' result
+unknown_answered {A} {J} {notes} laws seat journal said text told output output' (Ok written) none heard is out count fault =
     subst (λ (w : Option ℕ). IsNotedTurn notes seat seat journal journal said told output output' (Ok w)) (sym count)
-    (unknown_turn laws seat journal said told (min (told + length unknown_text) most_counted) output output' none heard out refl)
-unknown_answered {A} {J} {notes} laws seat journal said told output output' (Err fault) none heard out count (sent, cut, is) =
-    subst (λ (f : TalkFault). IsNotedTurn notes seat seat journal journal said told output output' (Err f)) (sym is) (unknown_broken laws seat journal said told sent output output' none heard cut)
+    (unknown_turn laws seat journal said text told (min (told + length text) most_counted) output output' none heard is out refl)
+unknown_answered {A} {J} {notes} laws seat journal said text told output output' (Err fault) none heard why out count (sent, cut, is) =
+    subst (λ (f : TalkFault). IsNotedTurn notes seat seat journal journal said told output output' (Err f)) (sym is) (unknown_broken laws seat journal said text told sent output output' none heard why cut)
 
 -- the journal failed: the line was carried out
 carried : {A : Type 0} (before now : TalkingSeat A) (said more text : List ℕ) (request : Request) (edits : List (Edit A)) → NoByte 10 said → IsHeard said (Some request) → IsTalkAnswered A before.seat before.draft now request text edits
@@ -340,7 +340,7 @@ breaks_end notes laws head before now old new Memory all more noted = laws.rests
 -- where a rest was carried out
 carried_begins : {A : Type 0} (now : TalkingSeat A) (left_at last : SeatContent A) (rest text : List ℕ) (edits : List (Edit A)) → IsCarriedOut now left_at rest edits text → KeepsZone left_at last → IsPrefix now.seat.front last.front
 carried_begins {A} now left_at last rest text edits is shown =
-    let left = line_leaves A now is.exchange.next is.exchange.heard is.exchange.answer is.exchange.edits is.is.answered in
+    let left = line_leaves A now is.exchange.next is.exchange.said is.exchange.heard is.exchange.answer is.exchange.edits is.is.answered in
     let begins : IsPrefix now.seat.front left_at.front = subst (λ (s : SeatContent A). IsPrefix now.seat.front s.front) (sym is.last_is) left.seen in
     prefix_trans now.seat.front left_at.front last.front begins shown.seen.begins
 

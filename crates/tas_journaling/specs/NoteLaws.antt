@@ -12,7 +12,7 @@ use Rattle.tas_desk.proofs.SeatLemmas.{entries_of-prefix}
 use Rattle.tas_language.specs.declared.command.Command.{Command}
 use Rattle.tas_language.specs.declared.command.Command.TheVariants.{Load, Edit as EditLine, Length, InputAt, Shot, Work}
 use Rattle.tas_language.specs.declared.request.Request.{Request}
-use Rattle.tas_language.specs.declared.request.Request.TheVariants.{Do, Retouch, Picture, Pictures, Ram, Digest, Lag, Movie, States, Share, History, Begin, Commit, Drop, Quit}
+use Rattle.tas_language.specs.declared.request.Request.TheVariants.{Do, Retouch, Picture, Pictures, Ram, Digest, Lag, Inputs, Movie, States, Share, History, Version, Begin, Commit, Drop, Quit}
 use Rattle.tas_seat.specs.Drafts.{DraftContent}
 use Rattle.tas_seat.specs.Edits.{made_between, requested_edits}
 use Rattle.tas_seat.specs.Turns.{Standing, standing_of}
@@ -57,7 +57,7 @@ noted_on {A} head old new journal is more =
 -- what a seat had seen begins what it has seen once it is answered
 noted_then : {A : Type 0} (head : Option (List ℕ)) (before now : TalkingSeat A) (request : Request) (answer : List ℕ) (journal : JournalContent) → HasTalkAnswer A before now request answer → IsNoted head before.seat.front journal → IsNoted head now.seat.front journal
 noted_then {A} head before now request answer journal answered is =
-    noted_on head before.seat.front now.seat.front journal is (line_leaves A before now (Some request) answer answered.0 answered.1).seen
+    noted_on head before.seat.front now.seat.front journal is (line_leaves A before now [] (Some request) answer answered.0 answered.1).seen
 
 short_from : {A : Type 0} (before now : TalkingSeat A) (last : SeatContent A) (request : Request) (answer : List ℕ) (old new : JournalContent) (fault : JournalFault) → HasTalkAnswer A before now request answer → FallsShort now.seat last old new fault
     → FallsShort before.seat last old new fault
@@ -113,10 +113,12 @@ outside_none A before now (Pictures from to) answer edits is none = is.0.0
 outside_none A before now (Ram k) answer edits is none = answered_none A before now.seat (Ram k) answer edits is.0 refl
 outside_none A before now (Digest k) answer edits is none = answered_none A before now.seat (Digest k) answer edits is.0 refl
 outside_none A before now (Lag from to) answer edits is none = answered_none A before now.seat (Lag from to) answer edits is.0 refl
+outside_none A before now (Inputs from to) answer edits is none = answered_none A before now.seat (Inputs from to) answer edits is.0 refl
 outside_none A before now Movie answer edits is none = answered_none A before now.seat Movie answer edits is.0 refl
 outside_none A before now States answer edits is none = answered_none A before now.seat States answer edits is.0 refl
 outside_none A before now Share answer edits is none = answered_none A before now.seat Share answer edits is.0 refl
 outside_none A before now (History from) answer edits is none = is.0.0
+outside_none A before now Version answer edits is none = answered_none A before now.seat Version answer edits is.0 refl
 outside_none A before now Begin answer edits is none = is.1
 outside_none A before now Commit answer edits is none = is.2.none
 outside_none A before now Drop answer edits is none = is.2.none
@@ -130,10 +132,12 @@ inside_none A before draft now (Pictures from to) answer edits is none = is.4.no
 inside_none A before draft now (Ram k) answer edits is none = is.4.none
 inside_none A before draft now (Digest k) answer edits is none = is.4.none
 inside_none A before draft now (Lag from to) answer edits is none = is.4.none
+inside_none A before draft now (Inputs from to) answer edits is none = is.4.none
 inside_none A before draft now Movie answer edits is none = is.4.none
 inside_none A before draft now States answer edits is none = is.4.none
 inside_none A before draft now Share answer edits is none = answered_none A before now.seat Share answer edits is.0 refl
 inside_none A before draft now (History from) answer edits is none = is.0.0
+inside_none A before draft now Version answer edits is none = is.4.none
 inside_none A before draft now Begin answer edits is none = is.2.none
 inside_none A before draft now Commit answer edits is none = absurd (cc none)
 inside_none A before draft now Drop answer edits is none = is.2.none
@@ -188,9 +192,9 @@ own_then {A} before now edits left is =
     omega (arith, is, was, same, named, left.made, left.grows)
 
 ready_then : {A : Type 0} (e : Bool) (before now : TalkingSeat A) (request : Request) (answer : List ℕ) (told : ℕ) → may_edit (is_some before.draft) request ≡ e → HasTalkAnswer A before now request answer → IsReadyIn e before.seat told → IsReadyIn e now.seat told
-ready_then {A} true before now request answer told is answered ready = own_then before.seat now.seat answered.0 (line_leaves A before now (Some request) answer answered.0 answered.1) ready
+ready_then {A} true before now request answer told is answered ready = own_then before.seat now.seat answered.0 (line_leaves A before now [] (Some request) answer answered.0 answered.1) ready
 ready_then {A} false before now request answer told is answered ready =
-    let left = line_leaves A before now (Some request) answer answered.0 answered.1 in
+    let left = line_leaves A before now [] (Some request) answer answered.0 answered.1 in
     let none = request_none A before.seat before.draft now request answer answered.0 answered.1 is in
     own_in_on before.seat now.seat told left.number (omega (arith, left.made, ap (λ (l : List (Edit A)). length l) none)) left.seen ready
 

@@ -9,7 +9,7 @@ ghost use Rattle.std.specs.Io.KnownBytes.{Appends};
 ghost use Rattle.byte_text.specs.CutOff.{IsCutOff};
 ghost use Rattle.byte_text.specs.Splitting.{NoByte};
 ghost use Rattle.tas_desk.specs.Seats.{SeatContent};
-ghost use Rattle.tas_language.specs.Answers.{unknown_text};
+ghost use Rattle.tas_language.specs.Unheard.{unknown_text};
 ghost use Rattle.tas_language.specs.Held.{HoldsLine};
 ghost use Rattle.tas_seat.specs.Conversations.{talking};
 ghost use Rattle.tas_seat.specs.Talk.{last_answer, most_counted};
@@ -26,7 +26,7 @@ use std::io::{Read, Write};
 use std::sync::Wait;
 use tas_desk::{CloseOnDrop, Desk, Name, Seat};
 use tas_engines::{ReadFault, RunFault, ToolFault};
-use tas_language::Line;
+use tas_language::{Line, Unheard, unknown_line};
 use tas_seat::Draft;
 use thiserror::Error;
 
@@ -58,16 +58,20 @@ fn counted(fault: AnswerFault, before: usize) -> TalkFault
 }
 
 /// Answers a line that isn't understood, and returns how many bytes have gone out with those before.
-fn answer_unknown<W: Write>(output: &mut W, before: usize) -> Result<Option<usize>, TalkFault>
+fn answer_unknown<W: Write>(
+    output: &mut W,
+    why: Unheard,
+    before: usize,
+) -> Result<Option<usize>, TalkFault>
     ensures out { OnOk result
-        (Appends (W.contents output.old) (W.contents output.new) unknown_text) }
+        (Appends (W.contents output.old) (W.contents output.new) (unknown_text why)) }
     ensures count { IfOk result
-        (λ written. written ≡ Some (min (before + length unknown_text) most_counted)) }
+        (λ written. written ≡ Some (min (before + length (unknown_text why)) most_counted)) }
     ensures fault { IfErr result (λ fault. (sent : ℕ)
-        × IsCutOff (W.contents output.old) (W.contents output.new) unknown_text sent
+        × IsCutOff (W.contents output.old) (W.contents output.new) (unknown_text why) sent
         × (fault ≡ counted_fault (AnswerCut sent) before)) }
 {
-    match hand_out(output, b"unknown\n") {
+    match hand_out(output, unknown_line(why)) {
         Ok(size) => Ok(Some(before.saturating_add(size))),
         Err(sent) => Err(counted(AnswerFault::Write(sent), before)),
     }
@@ -94,7 +98,7 @@ fn answer_line<N: Name, C: CloseOnDrop, A: Allocator + Copy, R: Wait, W: Write, 
         (W.contents output.old) (W.contents output.new) result }
 {
     let Some(request) = line.request() else {
-        return answer_unknown(output, written);
+        return answer_unknown(output, line.unheard(), written);
     };
     match answer_noted(rt, alloc, desk, seat, draft, request, journal, output) {
         Ok(Some(size)) => Ok(Some(written.saturating_add(size))),
@@ -164,7 +168,7 @@ fn answer_last<A: Allocator, W: Write>(
     if line.is_empty() {
         return Ok(());
     }
-    match answer_unknown(output, written) {
+    match answer_unknown(output, Unheard::End, written) {
         Ok(_) => Ok(()),
         Err(fault) => Err(fault),
     }

@@ -72,7 +72,7 @@ fn unknown_lines_are_not_journaled(rt: HostRuntime) {
     let mut input = Giver::new(b"hello\ninsert 0 1 ..... ..... .....\nlen", 2, 0);
     let left = talk(&rt, alloc, AMPLE, &mut input);
     check_same(&rt, "end", left.end, Ok(()));
-    let wanted = b"unknown\nedit 1 len 1\nunknown\n".as_slice();
+    let wanted = b"unknown word\nedit 1 len 1\nunknown end\n".as_slice();
     check_that(&rt, "answers", left.answers.as_slice() == wanted);
     let seen: [u64; 3] = [1, 2, 2];
     check_that(&rt, "syncs", left.seen.as_slice() == seen.as_slice());

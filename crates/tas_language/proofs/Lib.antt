@@ -4,5 +4,6 @@ pub mod OneCommand
 pub mod CommandLemmas
 pub mod OneRequest
 pub mod RequestLemmas
+pub mod UnheardLemmas
 pub mod MadeLemmas
 pub mod HistoryLemmas

@@ -18,13 +18,15 @@ use Rattle.tas_language.specs.declared.retouch.Retouch.TheVariants.{Press, Relea
 use Rattle.tas_language.specs.declared.edit_line.EditLine.{EditLine}
 use Rattle.tas_language.specs.declared.edit_line.EditLine.TheVariants as edit
 use Rattle.tas_language.specs.declared.request.Request.{Request}
-use Rattle.tas_language.specs.declared.request.Request.TheVariants.{Do, Picture, Pictures, Ram, Digest, Lag, Movie, States, Share, History, Begin, Commit, Drop, Quit}
+use Rattle.tas_language.specs.declared.request.Request.TheVariants.{Do, Picture, Pictures, Ram, Digest, Lag, Inputs, Movie, States, Share, History, Version, Begin, Commit, Drop, Quit}
 use Rattle.tas_language.specs.declared.request.Request.TheVariants as request
 use Rattle.byte_text.specs.Splitting.{NoByte}
 use Rattle.tas_language.specs.Commands.{IsNumber, Says, IsChangeLine, pair_text, triple_text, frames_text}
 use Rattle.tas_language.specs.Parts.{IsWordEnd}
 use Rattle.tas_language.specs.Requests.{Asks}
 use Rattle.tas_language.specs.Retouches.{IsEditLine, IsRetouchLine}
+use Rattle.tas_language.specs.Unheard.{first_word, is_line_word}
+use Rattle.tas_language.proofs.UnheardLemmas.{first_split, first_whole}
 use Rattle.tas_language.proofs.WordLemmas.{decimal_no_space}
 use Rattle.tas_language.proofs.PartLemmas.{same_word, end_of_parts}
 use Rattle.tas_language.proofs.OneCommand.{number_same, number_before, frame_same, one_command}
@@ -127,10 +129,12 @@ words_of (Pictures from to) = record { word = codes "pictures"; numbers = from �
 words_of (Ram frames) = record { word = codes "ram"; numbers = frames ∷ []; frame = None }
 words_of (Digest frame) = record { word = codes "digest"; numbers = frame ∷ []; frame = None }
 words_of (Lag from to) = record { word = codes "lag"; numbers = from ∷ to ∷ []; frame = None }
+words_of (Inputs from to) = record { word = codes "inputs"; numbers = from ∷ to ∷ []; frame = None }
 words_of Movie = record { word = codes "movie"; numbers = []; frame = None }
 words_of States = record { word = codes "states"; numbers = []; frame = None }
 words_of Share = record { word = codes "share"; numbers = []; frame = None }
 words_of (History from) = record { word = codes "history"; numbers = from ∷ []; frame = None }
+words_of Version = record { word = codes "version"; numbers = []; frame = None }
 words_of Begin = record { word = codes "begin"; numbers = []; frame = None }
 words_of Commit = record { word = codes "commit"; numbers = []; frame = None }
 words_of Drop = record { word = codes "drop"; numbers = []; frame = None }
@@ -151,10 +155,12 @@ request_of w =
     else if is_word w.word (codes "ram") then Ram a
     else if is_word w.word (codes "digest") then Digest a
     else if is_word w.word (codes "lag") then Lag a b
+    else if is_word w.word (codes "inputs") then Inputs a b
     else if is_word w.word (codes "movie") then Movie
     else if is_word w.word (codes "states") then States
     else if is_word w.word (codes "share") then Share
     else if is_word w.word (codes "history") then History a
+    else if is_word w.word (codes "version") then Version
     else if is_word w.word (codes "begin") then Begin
     else if is_word w.word (codes "commit") then Commit
     else if is_word w.word (codes "drop") then Drop
@@ -179,6 +185,7 @@ record HasWords (line : List ℕ) (asked : Request) : Type 0 where
   pub one : is_one_word (words_of asked).word ≡ true
   pub makes : request_of (words_of asked) ≡ asked
   pub other : is_script_word (words_of asked).word ≡ false
+  pub listed : is_line_word (words_of asked).word ≡ true
 
 -- the line is a script's, or has its words
 abbrev Known : List ℕ → Request → Type 0
@@ -195,23 +202,25 @@ three_numbers front k m n = ap (λ (l : List ℕ). front ++ 32 ∷ (decimal k ++
 
 known : (line : List ℕ) (asked : Request) → Asks line asked → Known line asked
 known line (Do command) p = inl (command, refl, p)
-known line (request.Retouch (Press at count input)) p = inr (record { text = p.0; numbers = (p.1.0, (p.1.1, tt)); one = refl; makes = refl; other = refl })
-known line (request.Retouch (Release at count input)) p = inr (record { text = p.0; numbers = (p.1.0, (p.1.1, tt)); one = refl; makes = refl; other = refl })
-known line (request.Retouch (Repeat at count times)) p = inr (record { text = p.0 ∙ three_numbers (codes "repeat") at count times; numbers = (p.1.0, (p.1.1, (p.1.2, tt))); one = refl; makes = refl; other = refl })
-known line (request.Retouch (Copy from count at)) p = inr (record { text = p.0 ∙ three_numbers (codes "copy") from count at; numbers = (p.1.0, (p.1.1, (p.1.2, tt))); one = refl; makes = refl; other = refl })
-known line (Picture frame) p = inr (record { text = p.0 ∙ one_number (codes "picture") frame; numbers = (p.1, tt); one = refl; makes = refl; other = refl })
-known line (Pictures from to) p = inr (record { text = p.0 ∙ two_numbers (codes "pictures") from to; numbers = (p.1, (p.2, tt)); one = refl; makes = refl; other = refl })
-known line (Ram frames) p = inr (record { text = p.0 ∙ one_number (codes "ram") frames; numbers = (p.1, tt); one = refl; makes = refl; other = refl })
-known line (Digest frame) p = inr (record { text = p.0 ∙ one_number (codes "digest") frame; numbers = (p.1, tt); one = refl; makes = refl; other = refl })
-known line (Lag from to) p = inr (record { text = p.0 ∙ two_numbers (codes "lag") from to; numbers = (p.1, (p.2, tt)); one = refl; makes = refl; other = refl })
-known line Movie p = inr (record { text = p ∙ sym (append-nil (codes "movie")); numbers = tt; one = refl; makes = refl; other = refl })
-known line States p = inr (record { text = p ∙ sym (append-nil (codes "states")); numbers = tt; one = refl; makes = refl; other = refl })
-known line Share p = inr (record { text = p ∙ sym (append-nil (codes "share")); numbers = tt; one = refl; makes = refl; other = refl })
-known line (History from) p = inr (record { text = p.0 ∙ one_number (codes "history") from; numbers = (p.1, tt); one = refl; makes = refl; other = refl })
-known line Begin p = inr (record { text = p ∙ sym (append-nil (codes "begin")); numbers = tt; one = refl; makes = refl; other = refl })
-known line Commit p = inr (record { text = p ∙ sym (append-nil (codes "commit")); numbers = tt; one = refl; makes = refl; other = refl })
-known line Drop p = inr (record { text = p ∙ sym (append-nil (codes "drop")); numbers = tt; one = refl; makes = refl; other = refl })
-known line Quit p = inr (record { text = p ∙ sym (append-nil (codes "quit")); numbers = tt; one = refl; makes = refl; other = refl })
+known line (request.Retouch (Press at count input)) p = inr (record { text = p.0; numbers = (p.1.0, (p.1.1, tt)); one = refl; makes = refl; other = refl; listed = refl })
+known line (request.Retouch (Release at count input)) p = inr (record { text = p.0; numbers = (p.1.0, (p.1.1, tt)); one = refl; makes = refl; other = refl; listed = refl })
+known line (request.Retouch (Repeat at count times)) p = inr (record { text = p.0 ∙ three_numbers (codes "repeat") at count times; numbers = (p.1.0, (p.1.1, (p.1.2, tt))); one = refl; makes = refl; other = refl; listed = refl })
+known line (request.Retouch (Copy from count at)) p = inr (record { text = p.0 ∙ three_numbers (codes "copy") from count at; numbers = (p.1.0, (p.1.1, (p.1.2, tt))); one = refl; makes = refl; other = refl; listed = refl })
+known line (Picture frame) p = inr (record { text = p.0 ∙ one_number (codes "picture") frame; numbers = (p.1, tt); one = refl; makes = refl; other = refl; listed = refl })
+known line (Pictures from to) p = inr (record { text = p.0 ∙ two_numbers (codes "pictures") from to; numbers = (p.1, (p.2, tt)); one = refl; makes = refl; other = refl; listed = refl })
+known line (Ram frames) p = inr (record { text = p.0 ∙ one_number (codes "ram") frames; numbers = (p.1, tt); one = refl; makes = refl; other = refl; listed = refl })
+known line (Digest frame) p = inr (record { text = p.0 ∙ one_number (codes "digest") frame; numbers = (p.1, tt); one = refl; makes = refl; other = refl; listed = refl })
+known line (Lag from to) p = inr (record { text = p.0 ∙ two_numbers (codes "lag") from to; numbers = (p.1, (p.2, tt)); one = refl; makes = refl; other = refl; listed = refl })
+known line (Inputs from to) p = inr (record { text = p.0 ∙ two_numbers (codes "inputs") from to; numbers = (p.1, (p.2, tt)); one = refl; makes = refl; other = refl; listed = refl })
+known line Movie p = inr (record { text = p ∙ sym (append-nil (codes "movie")); numbers = tt; one = refl; makes = refl; other = refl; listed = refl })
+known line States p = inr (record { text = p ∙ sym (append-nil (codes "states")); numbers = tt; one = refl; makes = refl; other = refl; listed = refl })
+known line Share p = inr (record { text = p ∙ sym (append-nil (codes "share")); numbers = tt; one = refl; makes = refl; other = refl; listed = refl })
+known line (History from) p = inr (record { text = p.0 ∙ one_number (codes "history") from; numbers = (p.1, tt); one = refl; makes = refl; other = refl; listed = refl })
+known line Version p = inr (record { text = p ∙ sym (append-nil (codes "version")); numbers = tt; one = refl; makes = refl; other = refl; listed = refl })
+known line Begin p = inr (record { text = p ∙ sym (append-nil (codes "begin")); numbers = tt; one = refl; makes = refl; other = refl; listed = refl })
+known line Commit p = inr (record { text = p ∙ sym (append-nil (codes "commit")); numbers = tt; one = refl; makes = refl; other = refl; listed = refl })
+known line Drop p = inr (record { text = p ∙ sym (append-nil (codes "drop")); numbers = tt; one = refl; makes = refl; other = refl; listed = refl })
+known line Quit p = inr (record { text = p ∙ sym (append-nil (codes "quit")); numbers = tt; one = refl; makes = refl; other = refl; listed = refl })
 
 -- ---- the first word of a script's line
 
@@ -222,18 +231,19 @@ record HasScriptWord (line : List ℕ) : Type 0 where
   pub ends : IsWordEnd rest
   pub one : is_one_word word ≡ true
   pub is : is_script_word word ≡ true
+  pub listed : is_line_word word ≡ true
 
 scripted : (line : List ℕ) (command : Command) → Says line command → HasScriptWord line
 unfolding IsWordEnd
-scripted line (Load (Large image)) p = record { word = codes "load"; rest = p.0; text = p.1; ends = subst IsWordEnd (sym p.2.text) (end_of_parts p.2.parts); one = refl; is = refl }
-scripted line (Load (Small image)) p = record { word = codes "load2"; rest = p.0; text = p.1; ends = subst IsWordEnd (sym p.2.text) (end_of_parts p.2.parts); one = refl; is = refl }
-scripted line (Edit (Insert at count input)) p = record { word = codes "insert"; rest = 32 ∷ frames_text at count input; text = p.0; ends = refl; one = refl; is = refl }
-scripted line (Edit (Replace at count input)) p = record { word = codes "replace"; rest = 32 ∷ frames_text at count input; text = p.0; ends = refl; one = refl; is = refl }
-scripted line (Edit (Delete at count)) p = record { word = codes "delete"; rest = 32 ∷ pair_text at count; text = p.0; ends = refl; one = refl; is = refl }
-scripted line Length p = record { word = codes "len"; rest = []; text = p ∙ sym (append-nil (codes "len")); ends = tt; one = refl; is = refl }
-scripted line (InputAt frame) p = record { word = codes "input"; rest = 32 ∷ decimal frame; text = p.0; ends = refl; one = refl; is = refl }
-scripted line (Shot frame) p = record { word = codes "shot"; rest = 32 ∷ decimal frame; text = p.0; ends = refl; one = refl; is = refl }
-scripted line (Work frame) p = record { word = codes "work"; rest = 32 ∷ decimal frame; text = p.0; ends = refl; one = refl; is = refl }
+scripted line (Load (Large image)) p = record { word = codes "load"; rest = p.0; text = p.1; ends = subst IsWordEnd (sym p.2.text) (end_of_parts p.2.parts); one = refl; is = refl; listed = refl }
+scripted line (Load (Small image)) p = record { word = codes "load2"; rest = p.0; text = p.1; ends = subst IsWordEnd (sym p.2.text) (end_of_parts p.2.parts); one = refl; is = refl; listed = refl }
+scripted line (Edit (Insert at count input)) p = record { word = codes "insert"; rest = 32 ∷ frames_text at count input; text = p.0; ends = refl; one = refl; is = refl; listed = refl }
+scripted line (Edit (Replace at count input)) p = record { word = codes "replace"; rest = 32 ∷ frames_text at count input; text = p.0; ends = refl; one = refl; is = refl; listed = refl }
+scripted line (Edit (Delete at count)) p = record { word = codes "delete"; rest = 32 ∷ pair_text at count; text = p.0; ends = refl; one = refl; is = refl; listed = refl }
+scripted line Length p = record { word = codes "len"; rest = []; text = p ∙ sym (append-nil (codes "len")); ends = tt; one = refl; is = refl; listed = refl }
+scripted line (InputAt frame) p = record { word = codes "input"; rest = 32 ∷ decimal frame; text = p.0; ends = refl; one = refl; is = refl; listed = refl }
+scripted line (Shot frame) p = record { word = codes "shot"; rest = 32 ∷ decimal frame; text = p.0; ends = refl; one = refl; is = refl; listed = refl }
+scripted line (Work frame) p = record { word = codes "work"; rest = 32 ∷ decimal frame; text = p.0; ends = refl; one = refl; is = refl; listed = refl }
 
 -- ---- one request a line
 
@@ -266,6 +276,25 @@ both_known line a b (inr p) (inr q) = words_same line a b p q
 
 pub one_request : (line : List ℕ) (a b : Request) → Asks line a → Asks line b → a ≡ b
 one_request line a b p q = both_known line a b (known line a p) (known line b q)
+
+-- ---- the first word of a line that is understood
+
+-- what stands before a space or the end
+first_of : (word rest : List ℕ) → NoByte 32 word → IsWordEnd rest → first_word (word ++ rest) ≡ word
+unfolding IsWordEnd
+first_of word [] none ends = ap first_word (append-nil word) ∙ first_whole word none
+first_of word (byte ∷ bytes) none ends = ap (λ (b : ℕ). first_word (word ++ b ∷ bytes)) ends ∙ first_split word bytes none
+
+begins_known : (line : List ℕ) (asked : Request) → Known line asked → is_line_word (first_word line) ≡ true
+begins_known line asked (inl p) =
+    let script = scripted line p.0 p.2 in
+    ap is_line_word (ap first_word script.text ∙ first_of script.word script.rest (no_space script.word script.one) script.ends) ∙ script.listed
+begins_known line asked (inr has) =
+    let w = words_of asked in
+    ap is_line_word (ap first_word has.text ∙ first_of w.word (after_word w.numbers w.frame) (no_space w.word has.one) (word_ends w.numbers w.frame)) ∙ has.listed
+
+pub begins_with_word : (line : List ℕ) (asked : Request) → Asks line asked → is_line_word (first_word line) ≡ true
+begins_with_word line asked p = begins_known line asked (known line asked p)
 
 -- ---- one line of `tas edit`
 

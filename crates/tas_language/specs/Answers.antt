@@ -1,13 +1,24 @@
 -- The answers for which a script has no reply.
-use Rattle.std.specs.Prelude.{ℕ, List, ◌∷◌, ◌++◌, length, codes, decimal}
+use Rattle.std.specs.Prelude.{ℕ, List, [], ◌∷◌, ◌++◌, length, codes, decimal}
 use Rattle.std.specs.List.{flat_map}
 use Rattle.hex.specs.Hex.{encode_lower}
 use Rattle.sha2.specs.Sha256.{sha256}
 use Rattle.byte_text.specs.Digits.{hex_byte}
+use Rattle.vcs_inputs.specs.declared.input.Input.{Input}
+use Rattle.tas_language.specs.History.{run_lines, some_runs_of}
 
--- the answer to a line that isn't understood
-abbrev pub unknown_text : List ℕ
-unknown_text = codes "unknown\n"
+-- the program's version
+abbrev pub program_version : List ℕ
+program_version = codes "0.3.0"
+
+-- the first words of the answers that have more than their line: the last word of the line is how many bytes follow
+abbrev pub words_with_bytes : List ℕ
+words_with_bytes = codes "picture lag inputs movie history"
+
+-- the program's version, the number of the machine's profile, that of the format of conversations, and the words after which bytes follow. The number of
+-- the format grows where an answer that exists changes, and not where lines or answers are added
+abbrev pub version_text : ℕ → List ℕ
+version_text profile = codes "version " ++ program_version ++ codes " profile " ++ decimal profile ++ codes " format 1 bytes " ++ words_with_bytes ++ codes "\n"
 
 -- a picture: a line that says how many bytes follow, and the pixmap
 abbrev pub picture_text : ℕ → ℕ → List ℕ → List ℕ
@@ -40,6 +51,16 @@ lag_head made a b count = codes "lag " ++ decimal made ++ codes " " ++ decimal a
 
 abbrev pub lag_text : ℕ → ℕ → ℕ → List ℕ → List ℕ
 lag_text made a b lines = lag_head made a b (length lines) ++ lines
+
+-- the inputs of the frames from one on: a line that says how many bytes follow, and a line for each run of equal ones, with its place, its count and its frame
+abbrev pub inputs_head : ℕ → ℕ → ℕ → ℕ → List ℕ
+inputs_head made from to count = codes "inputs " ++ decimal made ++ codes " " ++ decimal from ++ codes " " ++ decimal to ++ codes " " ++ decimal count ++ codes "\n"
+
+abbrev pub inputs_lines : ℕ → List Input → List ℕ
+inputs_lines from inputs = run_lines [] [] from (some_runs_of inputs)
+
+abbrev pub inputs_text : ℕ → ℕ → ℕ → List Input → List ℕ
+inputs_text made from to inputs = inputs_head made from to (length (inputs_lines from inputs)) ++ inputs_lines from inputs
 
 -- how many states the greenzone gained
 abbrev pub share_text : ℕ → ℕ → List ℕ

@@ -67,7 +67,7 @@ edit_lines prefix edit = flat_map (λ command. line (prefix ++ command_text comm
 abbrev pub entry_text : {A : Type 0} → ℕ → ℕ → Edit A → List ℕ
 entry_text number seat edit = edit_lines (decimal number ++ codes " " ++ decimal seat ++ codes " ") edit
 
--- the lines of some runs, each beginning with this prefix and word, at the place where the one before it ends. Private functions cite it
+-- the lines of some runs, each beginning with this prefix and word, at the place where the one before it ends
 abbrev pub run_lines : List ℕ → List ℕ → ℕ → List FrameRun → List ℕ
 run_lines prefix word at [] = []
 run_lines prefix word at (run ∷ runs) = line (prefix ++ (word ++ frames_text at run.count run.input)) ++ run_lines prefix word (at + run.count) runs

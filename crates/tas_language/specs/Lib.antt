@@ -5,6 +5,7 @@ pub mod Retouches
 pub mod Requests
 pub mod Held
 pub mod Answers
+pub mod Unheard
 pub mod Drafts
 pub mod Edits
 pub mod History

@@ -2,11 +2,11 @@
 use Rattle.std.specs.Prelude.{◌≡◌, ℕ, ◌+◌, ◌<◌, ◌≤◌, List, ◌++◌, length, codes, decimal, Option, Some, None}
 use Rattle.tas_language.specs.Commands.{Says, IsNumber, pair_text}
 use Rattle.tas_language.specs.declared.request.Request.{Request}
-use Rattle.tas_language.specs.declared.request.Request.TheVariants.{Do, Picture, Pictures, Ram, Digest, Lag, Movie, States, Share, History, Begin, Commit, Drop, Quit}
+use Rattle.tas_language.specs.declared.request.Request.TheVariants.{Do, Picture, Pictures, Ram, Digest, Lag, Inputs, Movie, States, Share, History, Version, Begin, Commit, Drop, Quit}
 use Rattle.tas_language.specs.declared.request.Request.TheVariants as request
 use Rattle.tas_language.specs.Retouches.{IsRetouchLine}
 
--- how many pictures one line asks for at most
+-- how many pictures, or inputs, one line asks for at most
 abbrev pub most_pictures : ℕ
 most_pictures = 1024
 
@@ -23,10 +23,12 @@ Asks said (Pictures from to) = (said ≡ codes "pictures " ++ pair_text from to)
 Asks said (Ram frames) = (said ≡ codes "ram " ++ decimal frames) × IsNumber frames
 Asks said (Digest frame) = (said ≡ codes "digest " ++ decimal frame) × IsNumber frame
 Asks said (Lag from to) = (said ≡ codes "lag " ++ pair_text from to) × IsNumber from × IsNumber to
+Asks said (Inputs from to) = (said ≡ codes "inputs " ++ pair_text from to) × IsNumber from × IsNumber to × IsStrip from to
 Asks said Movie = said ≡ codes "movie"
 Asks said States = said ≡ codes "states"
 Asks said Share = said ≡ codes "share"
 Asks said (History from) = (said ≡ codes "history " ++ decimal from) × IsNumber from
+Asks said Version = said ≡ codes "version"
 Asks said Begin = said ≡ codes "begin"
 Asks said Commit = said ≡ codes "commit"
 Asks said Drop = said ≡ codes "drop"
@@ -37,6 +39,7 @@ abbrev pub IsOneWord : Request → Type 0
 IsOneWord Movie = Unit {0}
 IsOneWord States = Unit {0}
 IsOneWord Share = Unit {0}
+IsOneWord Version = Unit {0}
 IsOneWord Begin = Unit {0}
 IsOneWord Commit = Unit {0}
 IsOneWord Drop = Unit {0}
@@ -49,6 +52,7 @@ IsOneWord (Ram frames) = ⊥
 IsOneWord (Digest frame) = ⊥
 IsOneWord (Lag from to) = ⊥
 IsOneWord (History from) = ⊥
+IsOneWord (Inputs from to) = ⊥
 
 -- how many bytes a line has at most that is understood, without its newline
 abbrev pub most_bytes : ℕ

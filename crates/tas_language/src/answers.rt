@@ -4,12 +4,28 @@ ghost use Rattle.std.specs.Prelude.{◌≡◌, ◌++◌, length, IfOk, OnOk};
 ghost use Rattle.std.specs.List.{flat_map};
 ghost use Rattle.vcs_tia.specs.Image.{ppm_bytes};
 ghost use Rattle.tas_movie.specs.Text.{text2};
-ghost use Rattle.tas_language.specs.Answers.{picture_text, movie_text, states_text, share_text, frame_word};
+ghost use Rattle.tas_language.specs.Answers.{picture_text, movie_text, states_text, share_text, version_text, frame_word};
 
 use itoa::Buffer;
 use std::alloc::{AllocError, Allocator};
 use tas_movie::{Movie, print_text};
 use vcs_tia::{PIXMAP_SIZE, Picture, ppm};
+
+/// The answer to `version`, where the machine has this profile: `version PROGRAM profile N format N bytes WORD ..`. PROGRAM is the
+/// program's version, as `tas --version` prints it. The number of the format grows where an answer that exists changes, and not where
+/// lines or answers are added. The words are the first ones of the answers that have bytes after their line, as many as the line's
+/// last word says. `AllocError` where memory is refused.
+pub fn version_answer<A: Allocator>(alloc: A, profile: usize) -> Result<Vec<u8, A>, AllocError>
+    // `version` is answered by the program's version, the profile of the machine, the format of conversations and the
+    // words after which bytes follow.
+    // Refused: format_is_reported_as_the_profile.
+    ensures { IfOk result (λ bytes. bytes.items ≡ version_text profile) }
+{
+    let text = format!(in alloc;
+        "version 0.3.0 profile {profile} format 1 bytes picture lag inputs movie history\n"
+    )?;
+    Ok(text.into_bytes())
+}
 
 /// Appends the pixmap of a picture. Room for it is made first, so that a write of [`ppm`] asks for no more memory; no clause of a
 /// writer says so.

@@ -47,7 +47,7 @@ fn push_run<A: Allocator>(
 }
 
 /// Appends a line for each run of equal inputs, as long as it can be, and one line with the count 0 where there are no inputs.
-fn push_inputs<A: Allocator>(
+pub fn push_inputs<A: Allocator>(
     text: &mut Vec<u8, A>,
     prefix: &[u8],
     word: &[u8],

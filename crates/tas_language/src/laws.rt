@@ -1,6 +1,6 @@
 //! Laws of the lines.
 
-ghost use Rattle.std.specs.Prelude.{◌≡◌, ◌≤◌, ℕ, List, length};
+ghost use Rattle.std.specs.Prelude.{◌≡◌, ◌≤◌, ℕ, List, length, true};
 ghost use Rattle.std.specs.List.{flat_map};
 ghost use Rattle.tas_movie.specs.Content.{MovieContent, most_inputs};
 ghost use Rattle.tas_movie.specs.Edit.{IsAllowed, edited};
@@ -13,6 +13,7 @@ ghost use Rattle.tas_language.specs.declared.request.Request.{Request};
 ghost use Rattle.tas_language.specs.Requests.{Asks};
 ghost use Rattle.tas_language.specs.declared.edit_line.EditLine.{EditLine};
 ghost use Rattle.tas_language.specs.Retouches.{IsEditLine};
+ghost use Rattle.tas_language.specs.Unheard.{first_word, is_line_word};
 
 use std::alloc::Allocator;
 
@@ -26,6 +27,13 @@ pub fn one_command_per_line()
 pub fn one_request_per_line()
     // Refused: none, it has no code to edit.
     ensures { (line : List ℕ) (a b : Request) → Asks line a → Asks line b → a ≡ b }
+{}
+
+/// A line that is understood begins with one of the words by which `Line::unheard` says what a line begins with.
+pub fn lines_begin_with_their_words()
+    // Refused: none, it has no code to edit.
+    ensures { (line : List ℕ) (asked : Request) → Asks line asked
+        → is_line_word (first_word line) ≡ true }
 {}
 
 /// A line of `tas edit` says one thing at most.

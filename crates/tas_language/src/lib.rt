@@ -27,9 +27,10 @@ mod printing;
 mod reply;
 mod request;
 mod retouch;
+mod unheard;
 mod words;
 
-pub use answers::{movie_answer, picture_answer, share_answer, states_answer};
+pub use answers::{movie_answer, picture_answer, share_answer, states_answer, version_answer};
 pub use change::{Change, change_line, read_change};
 pub use command::Command;
 pub use draft_reply::{DraftReply, draft_reply_line};
@@ -37,13 +38,15 @@ pub use edit_line::{EditLine, read_edit_line};
 pub use history::{history_answer, push_edit_lines, push_entry};
 pub use image::Image;
 pub use laws::{
-    edit_lines_make_the_edit, one_command_per_line, one_edit_line_per_line, one_request_per_line,
+    edit_lines_make_the_edit, lines_begin_with_their_words, one_command_per_line,
+    one_edit_line_per_line, one_request_per_line,
 };
 pub use line::{Line, MAX_LINE};
-pub use looks::{digest_answer, lag_answer, ram_answer};
+pub use looks::{digest_answer, inputs_answer, lag_answer, ram_answer};
 pub use parsing::{MAX_PICTURES, parse_line, parse_request};
 pub use printing::reply_line;
 pub use reply::Reply;
 pub use request::Request;
 pub use retouch::{Retouch, read_retouch};
+pub use unheard::{Unheard, unknown_line};
 pub use words::{MAX_NUMBER, after_prefix, number};

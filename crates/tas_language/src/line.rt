@@ -6,8 +6,10 @@
 ghost use Rattle.std.specs.Prelude.{◌≡◌, ◌<◌, ◌++◌, ℕ, [], List, length, true, false, IfOk, OnOk, OnErr};
 ghost use Rattle.tas_language.specs.Requests.{IsHeard};
 ghost use Rattle.tas_language.specs.Held.{HoldsLine};
+ghost use Rattle.tas_language.specs.Unheard.{why_unheard};
 
-use crate::{Request, parse_request};
+use crate::unheard::why_short_unheard;
+use crate::{Request, Unheard, parse_request};
 use std::alloc::{AllocError, Allocator, Global};
 
 /// The longest line that is understood, in bytes without its newline.
@@ -89,5 +91,18 @@ impl<A: Allocator> Line<A> {
             return None;
         }
         parse_request(self.bytes.as_slice())
+    }
+
+    /// Why the line isn't understood, where it isn't and a newline ends it.
+    pub fn unheard(&self) -> Unheard
+        // Why a line isn't understood follows from what was said, however much of it is held.
+        // Refused: long_line_is_reported_as_without_a_word.
+        ensures { (said : List ℕ) → HoldsLine said self.now.bytes.items self.now.long
+            → result ≡ why_unheard said }
+    {
+        if self.long {
+            return Unheard::Long;
+        }
+        why_short_unheard(self.bytes.as_slice())
     }
 }

@@ -1,15 +1,17 @@
-//! The answers to `ram K`, `digest K` and `lag A B`.
+//! The answers to `ram K`, `digest K`, `lag A B` and `inputs FROM TO`.
 
 ghost use Rattle.std.specs.Prelude.{◌≡◌, ◌++◌, IfOk, OnOk};
 ghost use Rattle.std.specs.List.{flat_map};
 ghost use Rattle.byte_text.specs.Digits.{hex_byte};
 ghost use Rattle.vcs_tia.specs.Image.{ppm_bytes};
-ghost use Rattle.tas_language.specs.Answers.{ram_text, frame_digest_text, lag_head, lag_text};
+ghost use Rattle.tas_language.specs.Answers.{ram_text, frame_digest_text, lag_head, lag_text, inputs_head, inputs_lines, inputs_text};
 
 use crate::answers::push_pixmap;
+use crate::history::push_inputs;
 use byte_text::hex_digits;
 use sha2::{Digest, Sha256};
 use std::alloc::{AllocError, Allocator};
+use vcs_inputs::Input;
 use vcs_tia::Picture;
 
 /// Appends each byte as two upper case hexadecimal digits.
@@ -88,5 +90,50 @@ pub fn lag_answer<A: Allocator>(
 {
     let mut bytes = lag_head(alloc, at, from, to, lines.len())?;
     bytes.extend_from_slice(lines)?;
+    Ok(bytes)
+}
+
+/// The first line of the answer to `inputs FROM TO`.
+fn inputs_head<A: Allocator>(
+    alloc: A,
+    at: u64,
+    from: usize,
+    to: usize,
+    count: usize,
+) -> Result<Vec<u8, A>, AllocError>
+    ensures { IfOk result (λ bytes. bytes.items ≡ inputs_head at from to count) }
+{
+    Ok(format!(in alloc; "inputs {at} {from} {to} {count}\n")?.into_bytes())
+}
+
+/// A line for each run of the inputs of the frames from one on.
+fn inputs_lines<A: Allocator>(
+    alloc: A,
+    from: usize,
+    inputs: &[Input],
+) -> Result<Vec<u8, A>, AllocError>
+    ensures { IfOk result (λ lines. lines.items ≡ inputs_lines from inputs.now) }
+{
+    let mut lines = Vec::new(alloc);
+    push_inputs(&mut lines, b"", b"", from, inputs)?;
+    Ok(lines)
+}
+
+/// The answer to `inputs FROM TO`, where these are the inputs of the frames: `inputs AT FROM TO BYTES`, a newline, and this many bytes, a line
+/// `PLACE COUNT FRAME` for each run of equal inputs. `AllocError` where memory is refused.
+pub fn inputs_answer<A: Allocator + Copy>(
+    alloc: A,
+    at: u64,
+    from: usize,
+    to: usize,
+    inputs: &[Input],
+) -> Result<Vec<u8, A>, AllocError>
+    // The inputs of some frames are reported by a line that says how many bytes follow, and a line for each run.
+    // Refused: half_of_the_inputs_lines_are_reported.
+    ensures { IfOk result (λ bytes. bytes.items ≡ inputs_text at from to inputs.now) }
+{
+    let lines = inputs_lines(alloc, from, inputs)?;
+    let mut bytes = inputs_head(alloc, at, from, to, lines.len())?;
+    bytes.extend_from_slice(lines.as_slice())?;
     Ok(bytes)
 }

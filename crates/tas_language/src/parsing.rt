@@ -1,7 +1,7 @@
 //! Parsing a line.
 //!
 //! The numbers of `pictures FROM TO` are checked here: a strip of no frames would be a line without an answer, so it
-//! isn't understood, and neither is one of more than 1,024.
+//! isn't understood, and neither is one of more than 1,024. Those of `inputs FROM TO` are as many.
 
 ghost use Rattle.std.specs.Prelude.{◌≡◌, ◌≢◌, ◌++◌, ℕ, codes, decimal, IfSome, IfNone};
 ghost use Rattle.tas_language.specs.declared.command.Command.{Command as Asked};
@@ -64,18 +64,18 @@ fn numbered(line: &[u8], front: &[u8]) -> Option<usize>
     number(rest)
 }
 
-/// How many pictures one line asks for at most.
+/// How many pictures, or inputs, one line asks for at most.
 pub const MAX_PICTURES: usize = 1024;
 
-/// The frames of a `pictures` line.
-fn strip_frames(line: &[u8]) -> Option<(usize, usize)>
+/// The frames at the end of a line that begins with `front`, as one line may ask for them.
+fn strip_frames(line: &[u8], front: &[u8]) -> Option<(usize, usize)>
     ensures some { IfSome result
-        (λ found. (line.now ≡ codes "pictures " ++ pair_text found.0 found.1) × IsNumber found.0
+        (λ found. (line.now ≡ front.now ++ pair_text found.0 found.1) × IsNumber found.0
         × IsNumber found.1 × IsStrip found.0 found.1) }
     ensures none { IfNone result ((from to : ℕ) → IsNumber from → IsNumber to → IsStrip from to
-        → line.now ≢ codes "pictures " ++ pair_text from to) }
+        → line.now ≢ front.now ++ pair_text from to) }
 {
-    let rest = after_prefix(line, b"pictures ")?;
+    let rest = after_prefix(line, front)?;
     let (from, to) = pair(rest)?;
     if from >= to || to - from > MAX_PICTURES {
         return None;
@@ -109,6 +109,9 @@ fn one_word(line: &[u8]) -> Option<Request>
     if line == b"share".as_slice() {
         return Some(Request::Share);
     }
+    if line == b"version".as_slice() {
+        return Some(Request::Version);
+    }
     if line == b"begin".as_slice() {
         return Some(Request::Begin);
     }
@@ -129,7 +132,8 @@ pub fn parse_request(line: &[u8]) -> Option<Request>
     // A conversation's line is understood exactly where it is the text of a request: a command, or one of what only
     // conversations have; the definitions have no grammar.
     // Refused: picture_line_asks_for_another_frame*, movie_line_asks_for_the_states, lag_line_has_its_numbers_swapped*,
-    // history_line_asks_for_half_its_number*, share_line_asks_for_the_states*.
+    // history_line_asks_for_half_its_number*, share_line_asks_for_the_states*, version_line_asks_for_the_movie,
+    // inputs_line_has_its_numbers_swapped.
     // A strip has one frame at least and 1,024 at most.
     // Refused: strip_of_1023_pictures, strip_line_with_its_numbers_swapped*.
     ensures some { IfSome result (Asks line.now) }
@@ -141,8 +145,11 @@ pub fn parse_request(line: &[u8]) -> Option<Request>
     if let Some(frame) = numbered(line, b"picture ") {
         return Some(Request::Picture { frame });
     }
-    if let Some((from, to)) = strip_frames(line) {
+    if let Some((from, to)) = strip_frames(line, b"pictures ") {
         return Some(Request::Pictures { from, to });
+    }
+    if let Some((from, to)) = strip_frames(line, b"inputs ") {
+        return Some(Request::Inputs { from, to });
     }
     if let Some(frames) = numbered(line, b"ram ") {
         return Some(Request::Ram { frames });

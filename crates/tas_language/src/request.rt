@@ -38,6 +38,13 @@ pub enum Request {
         /// The place after the last one.
         to: usize,
     },
+    /// `inputs FROM TO`: the runs of equal inputs from one frame to the one before another.
+    Inputs {
+        /// The first frame, counted from 0.
+        from: usize,
+        /// The place after the last one.
+        to: usize,
+    },
     /// `movie`: the movie's text.
     Movie,
     /// `states`: the frames of the kept states.
@@ -49,6 +56,8 @@ pub enum Request {
         /// The number of the first entry, counted from 0.
         from: usize,
     },
+    /// `version`: the program's version, the machine's profile, and the format of conversations.
+    Version,
     /// `begin`: a draft of the movie is opened.
     Begin,
     /// `commit`: the draft's change is made.

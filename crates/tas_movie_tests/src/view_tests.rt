@@ -157,6 +157,45 @@ fn pictures_and_states_share_a_window(rt: HostRuntime) {
     check_kept(&rt, "copy", &copy, &[64]);
 }
 
+/// Whether the machine after frame `k` is at hand, and is the one that is played for it.
+fn is_at_hand<R: Abort>(rt: &R, alloc: Global, view: &View, k: usize) -> bool {
+    let Some(found) = view.after_frame(k) else {
+        return false;
+    };
+    let mut copy = expect_ok(rt, view.copy(alloc));
+    let reached = expect_ok(rt, copy.state(k.saturating_add(1)));
+    check_same(rt, ("played", k), reached.ran, 0);
+    check_that(rt, ("RAM", k), found.ram() == reached.state.ram());
+    found.ram() == reached.state.ram()
+}
+
+/// Frames of a movie of 200, of which frame 100 was shown, and whether the machine after them is at hand: near that frame, and further back
+/// at each 16th frame.
+static AT_HAND: [(usize, bool); 10] = [
+    (100, true),
+    (99, true),
+    (64, true),
+    (63, true),
+    (20, false),
+    (15, true),
+    (101, false),
+    (199, false),
+    (200, false),
+    (usize::MAX, false),
+];
+
+#[test]
+fn a_shown_frame_leaves_the_machine_after_it(rt: HostRuntime) {
+    let alloc = rt.alloc();
+    let mut view = view_of(&rt, alloc, PLAYFIELD, 200);
+    check_that(&rt, "at first", view.after_frame(100).is_none());
+    let drawn = picture(&rt, alloc, &mut view, 100);
+    check_same(&rt, "picture", drawn, Ok((101, Ok(1680))));
+    for (k, wanted) in &AT_HAND {
+        check_same(&rt, *k, is_at_hand(&rt, alloc, &view, *k), *wanted);
+    }
+}
+
 #[test]
 fn a_view_has_room_for_512_states(rt: HostRuntime) {
     let alloc = rt.alloc();

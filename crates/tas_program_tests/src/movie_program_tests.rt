@@ -80,7 +80,7 @@ static TALKS: [Written<'static>; 1] = [(
     TALK,
     THREE_FRAMES,
     b"len\nwhat\nshot 0\nstates\nquit\nlen\n",
-    b"len 2 3\nunknown\nshot 2 0 ran 1 lit 1680\nstates 2 0\n",
+    b"len 2 3\nunknown word\nshot 2 0 ran 1 lit 1680\nstates 2 0\n",
 )];
 
 #[test]

@@ -49,7 +49,7 @@ static ANSWERS: [Written<'static>; 10] = [
         &["talk", "game.bin"],
         b"",
         b"len\nwhat",
-        b"len 2 0\nunknown\n",
+        b"len 2 0\nunknown end\n",
     ),
     (&["export", "game.bin", "0", "0", "3"], b"", ONE_FRAME, b""),
 ];

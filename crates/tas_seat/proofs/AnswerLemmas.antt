@@ -1,9 +1,12 @@
 -- Answers to requests.
-use Rattle.std.proofs.Common.{◌≡◌, ℕ, ◌+◌, ◌≤◌, List, [], length, true, false, Option, Some, Result, Ok, Err, IfOk, inl, inr, refl, sym, ap, subst, ◌∙◌}
-use Rattle.std.specs.Prelude.{MatchOption, MatchResult, drop}
+use Rattle.std.proofs.Common.{◌≡◌, ℕ, ◌+◌, ◌<◌, ◌≤◌, List, [], length, true, false, Bool, Option, Some, Result, Ok, Err, IfOk, ◌⊎◌, inl, inr, refl, sym, ap, subst, ◌∙◌}
+use Rattle.std.specs.Prelude.{MatchOption, MatchResult, OnOk, drop}
+use Rattle.std.proofs.lemmas.Result.{IfOk-weaker, MatchResult-weaker}
+use Rattle.vcs_machine.specs.Machine.{profile}
 use Rattle.vcs_tia.specs.Image.{ppm_bytes}
-use Rattle.tas_movie.specs.Content.{MovieContent, most_inputs}
+use Rattle.tas_movie.specs.Content.{MovieContent}
 use Rattle.tas_movie.specs.Text.{text2}
+use Rattle.tas_green.specs.Run.{state_after}
 use Rattle.tas_session.specs.declared.replies.Shot.{Shot as ShotOf}
 use Rattle.tas_session.specs.declared.replies.Reached.{Reached}
 use Rattle.tas_published.specs.History.{movie_of}
@@ -26,18 +29,18 @@ use Rattle.tas_language.specs.declared.reply.Reply.{Reply}
 use Rattle.tas_language.specs.declared.reply.Reply.TheVariants.{OutOfMemory}
 use Rattle.tas_language.specs.Replies.{reply_text}
 use Rattle.tas_language.specs.declared.request.Request.{Request}
-use Rattle.tas_language.specs.declared.request.Request.TheVariants.{Do, Retouch, Picture, Ram, Digest, Lag, Movie, States, Share, History}
-use Rattle.tas_language.specs.Answers.{picture_text, movie_text, states_text, share_text}
+use Rattle.tas_language.specs.declared.request.Request.TheVariants.{Do, Retouch, Picture, Ram, Digest, Lag, Inputs, Movie, States, Share, History, Version}
+use Rattle.tas_language.specs.Answers.{picture_text, frame_digest_text, movie_text, states_text, share_text, version_text}
 use Rattle.tas_seat.specs.declared.edit_requests.EditRequest.TheVariants.{Retouch as RetouchAsked}
 use Rattle.tas_seat.specs.Turns.{standing_at, standing_of}
-use Rattle.tas_seat.specs.Requests.{Rests, Plays, Gains, GainsUnless, look_text, look_places, IsLooked, kept_frames}
+use Rattle.tas_seat.specs.Requests.{Rests, Plays, Gains, GainsUnless, picture_found, digest_found, look_text, look_places, IsLooked, kept_frames, inputs_found, answer_to_inputs}
 use Rattle.tas_seat.specs.HistoryText.{history_reply_text}
 use Rattle.tas_seat.specs.Seats.{talk_state_at, KeepsWindow, IsZonePlayed, LookLeavesZone, IsAnswered}
 use Rattle.tas_seat.specs.Outcomes.{IsEditAnswered, IsMiscounted, IsUnanswered, HasAnswer, KeepsSeat, HasNoAnswer}
 use Rattle.tas_seat.specs.Inside.Looking.{IsShotFound, IsStateFound, AsksForState, HasText, HasReport}
-use Rattle.tas_seat.proofs.SeatLemmas.{looked_at, rests, green_at, gains_at, answered_here}
+use Rattle.tas_seat.proofs.SeatLemmas.{seen_same, looked_at, rests, green_at, gains_at, answered_here}
 use Rattle.tas_seat.proofs.TextLemmas.{text_or_memory, made_or_memory}
-use Rattle.tas_seat.proofs.ReachLemmas.{few_inputs, lag_ignored, of_looks, looked_as, state_told, picture_told}
+use Rattle.tas_seat.proofs.ReachLemmas.{lag_ignored, of_looks, looked_as, state_told, drawn_told, of_ok, shown_within}
 
 -- ---- answers and faults
 
@@ -98,7 +101,7 @@ pub reached_here : {A : Type 0} (before now : SeatContent A) (from to : ℕ) (re
 reached_here before now from to (Ok found) is zone = (is.0, is.1, is.2, is.3, record { made = zone.made; played = zone.reach })
 reached_here before now from to (Err NoStateEntry) is zone = zone
 reached_here before now from to (Err (FewFrames at len)) is zone =
-    (λ order within. is.2 order (subst (λ (n : ℕ). to ≤ n) (sym is.1) within), is.0, is.1, subst (λ (n : ℕ). n ≤ most_inputs) (sym is.1) (few_inputs now.front), zone)
+    (λ order within. is.2 order (subst (λ (n : ℕ). to ≤ n) (sym is.1) within), is.0, is.1, zone)
 reached_here before now from to (Err NoStateMemory) is zone = (is.0, is.1, zone)
 
 -- the zone's movie is the history's then
@@ -113,7 +116,7 @@ looked_here A before now look at answer is seen told =
     of_looks (λ (l : Request). LookLeavesZone before now l answer → HasAnswer A before now l answer) at look is
     (λ k zone. ([], answered_here A before now (Picture k) answer seen (refl, seen_at (look_text (standing_of now.front) (Picture k)) (k, k + 1) zone) zone tt))
     (λ k zone. ([], answered_here A before now (Ram k) answer seen (refl, seen_at (look_text (standing_of now.front) (Ram k)) (k, k) zone) zone tt))
-    (λ k zone. ([], answered_here A before now (Digest k) answer seen (refl, seen_at (look_text (standing_of now.front) (Digest k)) (k, k) zone) zone tt))
+    (λ k zone. ([], answered_here A before now (Digest k) answer seen (refl, seen_at (look_text (standing_of now.front) (Digest k)) (k, k + 1) zone) zone tt))
     (λ a b zone. ([], answered_here A before now (Lag a b) answer seen ((refl, seen_at (look_text (standing_of now.front) (Lag a b)) (a, a) zone), lag_ignored (movie_of now.front)) zone tt))
     (subst
     (λ (o : Option (ℕ × ℕ)). MatchOption o (KeepsWindow before.zone now.zone) (λ f. IsLooked (standing_of now.front) (look_text (standing_of now.front) look) (now.zone ≡ before.zone) (IsZonePlayed before.zone now.zone now.front f.0 f.1) answer))
@@ -133,8 +136,29 @@ pub picture_answered : {X A B : Type 0} (before now : SeatContent A) (k : ℕ) (
     → MatchResult drawn (λ shot. HasText r bytes_of (Some (picture_text shot.at k (ppm_bytes shot.picture)))) (λ error. HasReport r bytes_of error)
     → MatchResult r (λ bytes. HasAnswer A before now (Picture k) (bytes_of bytes)) (HasNoAnswer before now (Picture k))
 picture_answered {X} {A} before now k drawn r bytes_of seen is zone has =
-    picture_told (HasAnswer A before now (Picture k)) (HasNoAnswer before now (Picture k)) (movie_of now.front) (length now.front) k (now ≡ before) (now.zone ≡ before.zone) (IsZonePlayed before.zone now.zone now.front k (k + 1)) drawn r bytes_of
-    (drawn_here before now k drawn is zone) has (λ answer told. looked_here A before now (Picture k) (k, k + 1) answer refl seen told) (λ same. same) (λ answer told. inr (answer, told))
+    drawn_told (HasAnswer A before now (Picture k)) (HasNoAnswer before now (Picture k)) (movie_of now.front) (length now.front) k (Picture k) (picture_found (standing_of now.front) k) (λ n p. picture_text n k (ppm_bytes p)) (now ≡ before) (now.zone ≡ before.zone)
+    (IsZonePlayed before.zone now.zone now.front k (k + 1)) drawn r bytes_of refl (λ halt. refl) (of_ok drawn _ (λ shot. refl)) (drawn_here before now k drawn is zone) has (λ answer told. looked_here A before now (Picture k) (k, k + 1) answer refl seen told)
+    (λ same. same) (λ answer told. inr (answer, told))
+
+-- the movie of the view that has drawn it is the history's then
+viewed_here : {A B : Type 0} (before now : SeatContent A) (name : MovieContent) (k : ℕ) (drawn : Result (ShotOf B) ShotError) → name ≡ now.zone.movie → IsZoneViewed before now k drawn → IfOk drawn (λ shot. name ≡ movie_of now.front)
+viewed_here before now name k (Ok shot) is zone = is ∙ zone.made.movie
+viewed_here before now name k (Err error) is zone = tt
+
+pub digest_answered : {X A B : Type 0} (before now : SeatContent A) (name : MovieContent) (k : ℕ) (drawn : Result (ShotOf B) ShotError) (r : Result X RunFault) (bytes_of : X → List ℕ) → HasSeen before now → IsShotAt now.front k drawn
+    → IsZoneViewed before now k drawn → name ≡ now.zone.movie
+    → MatchResult drawn (λ shot. HasText r bytes_of (Some (frame_digest_text shot.at k (state_after name (k + 1)).riot.ram (ppm_bytes shot.picture)))) (λ error. HasReport r bytes_of error)
+    → MatchResult r (λ bytes. HasAnswer A before now (Digest k) (bytes_of bytes)) (HasNoAnswer before now (Digest k))
+digest_answered {X} {A} before now name k drawn r bytes_of seen is zone named has =
+    drawn_told (HasAnswer A before now (Digest k)) (HasNoAnswer before now (Digest k)) (movie_of now.front) (length now.front) k (Digest k) (digest_found (standing_of now.front) k)
+    (λ n p. frame_digest_text n k (state_after name (k + 1)).riot.ram (ppm_bytes p)) (now ≡ before) (now.zone ≡ before.zone) (IsZonePlayed before.zone now.zone now.front k (k + 1)) drawn r bytes_of refl (λ halt. refl)
+    (IfOk-weaker drawn _ _ (λ shot e. ap (λ (m : MovieContent). frame_digest_text (length now.front) k (state_after m (k + 1)).riot.ram (ppm_bytes shot.picture)) e) (viewed_here before now name k drawn named zone)) (drawn_here before now k drawn is zone) has
+    (λ answer told. looked_here A before now (Digest k) (k, k + 1) answer refl seen told) (λ same. same) (λ answer told. inr (answer, told))
+
+-- the movie has the frame that was drawn
+pub frame_here : {A B : Type 0} (before now : SeatContent A) (name : MovieContent) (k : ℕ) (drawn : Result (ShotOf B) ShotError) → IsShotAt now.front k drawn → IsZoneViewed before now k drawn → name ≡ now.zone.movie → OnOk drawn (k < length name.inputs)
+frame_here before now name k (Ok shot) is zone named = subst (λ (m : MovieContent). k < length m.inputs) (sym (named ∙ zone.made.movie)) (shown_within (movie_of now.front) k (Ok shot.picture) is.0)
+frame_here before now name k (Err error) is zone named = tt
 
 pub look_answered : {X A : Type 0} (before now : SeatContent A) (name : MovieContent) (look : Request) (from to : ℕ) (reached : Result Reached StateError) (r : Result X RunFault) (bytes_of : X → List ℕ) → AsksForState look from to → HasSeen before now
     → IsStateFor now.front from to reached → IsZoneReached before now from reached → name ≡ now.zone.movie
@@ -175,6 +199,26 @@ unshared_movie A before now seen zone = lost_movie A before now seen (unshared b
 pub unwritten_movie : (A : Type 0) (before now : SeatContent A) (gained : ℕ) → HasSeen before now → IsShared before.zone now.zone now.front gained → HasAnswer A before now Movie (reply_text OutOfMemory)
 unwritten_movie A before now gained seen shared = lost_movie A before now seen (shared_still before now gained shared) (inr shared.cut)
 
+-- what `inputs` found, or memory was refused
+inputs_here : (A : Type 0) (before now : SeatContent A) (from to : ℕ) (no_memory : Bool) → HasSeen before now → GainsUnless no_memory (talk_state_at now.front before.zone) (talk_state_at now.front now.zone) → KeepsWindow before.zone now.zone
+    → HasAnswer A before now (Inputs from to) (answer_to_inputs no_memory (standing_of now.front) from to)
+inputs_here A before now from to no_memory seen leaves window = ([], answered_here A before now (Inputs from to) (answer_to_inputs no_memory (standing_of now.front) from to) seen (no_memory, refl, refl, leaves) window tt)
+
+pub unshared_inputs : (A : Type 0) (before now : SeatContent A) (from to : ℕ) → HasSeen before now → now.zone ≡ before.zone → HasAnswer A before now (Inputs from to) (reply_text OutOfMemory)
+unshared_inputs A before now from to seen zone = inputs_here A before now from to true seen (unshared before now zone) (inl zone)
+
+pub inputs_answered : {X A : Type 0} (before now : SeatContent A) (at gained from to : ℕ) (movie : MovieContent) (r : Result X RunFault) (bytes_of : X → List ℕ) → HasSeen before now → at ≡ length now.front → movie ≡ now.zone.movie
+    → IsShared before.zone now.zone now.front gained → MatchResult r (λ bytes. (bytes_of bytes ≡ inputs_found (standing_at movie at) from to) ⊎ (bytes_of bytes ≡ reply_text OutOfMemory)) (λ fault. fault ≡ Memory)
+    → MatchResult r (λ bytes. HasAnswer A before now (Inputs from to) (bytes_of bytes)) (HasNoAnswer before now (Inputs from to))
+inputs_answered {X} {A} before now at gained from to movie r bytes_of seen here is shared has =
+    let name = text_at (λ n m. inputs_found (standing_at m n) from to) at (length now.front) movie (movie_of now.front) here (is ∙ shared.made.movie) in
+    let told = inputs_here A before now from to false seen (gains_at before now now.front gained shared) (inr shared.cut) in
+    let lost = inputs_here A before now from to true seen (shared_still before now gained shared) (inr shared.cut) in
+    MatchResult-weaker r has (λ bytes e. elim e [
+      | inl found ↦ subst (HasAnswer A before now (Inputs from to)) (sym (found ∙ name)) told
+      | inr refused ↦ subst (HasAnswer A before now (Inputs from to)) (sym refused) lost
+    ]) (λ fault e. subst (HasNoAnswer before now (Inputs from to)) (sym e) (inr (reply_text OutOfMemory, lost)))
+
 pub states_answered : (A : Type 0) (before now : SeatContent A) (at gained : ℕ) → HasSeen before now → at ≡ length now.front → IsShared before.zone now.zone now.front gained
     → HasAnswer A before now States (states_text at (kept_frames (length now.zone.movie.inputs) now.zone.states))
 states_answered A before now at gained seen here shared =
@@ -205,6 +249,17 @@ lost_share A before now at gained fault is seen here shared = subst (HasNoAnswer
 
 pub unshared_share : (A : Type 0) (before now : SeatContent A) → HasSeen before now → now.zone ≡ before.zone → HasAnswer A before now Share (reply_text OutOfMemory)
 unshared_share A before now seen zone = ([], answered_here A before now Share (reply_text OutOfMemory) seen (true, (refl, rests before now now.front now.front zone), refl) (inl zone) tt)
+
+-- ---- `version`
+
+version_here : (A : Type 0) (seat : SeatContent A) → HasAnswer A seat seat Version (version_text profile)
+version_here A seat = ([], answered_here A seat seat Version (version_text profile) (seen_same seat seat refl) (refl, refl, rests seat seat seat.front seat.front refl) (inl refl) tt)
+
+pub version_answered : {A : Type 0} (seat : SeatContent A) (answer : List ℕ) → answer ≡ version_text profile → HasAnswer A seat seat Version answer
+version_answered {A} seat answer is = subst (HasAnswer A seat seat Version) (sym is) (version_here A seat)
+
+pub lost_version : {A : Type 0} (seat : SeatContent A) (fault : RunFault) → fault ≡ Memory → HasNoAnswer seat seat Version fault
+lost_version seat fault is = subst (HasNoAnswer seat seat Version) (sym is) (inl refl)
 
 -- ---- the history
 

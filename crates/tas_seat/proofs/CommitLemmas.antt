@@ -14,7 +14,7 @@ use Rattle.tas_language.specs.declared.reply.Reply.TheVariants.{Full}
 use Rattle.tas_language.specs.declared.draft_reply.DraftReply.TheVariants.{Moved}
 use Rattle.tas_language.specs.Drafts.{draft_reply_text}
 use Rattle.tas_language.specs.declared.request.Request.{Request}
-use Rattle.tas_language.specs.declared.request.Request.TheVariants.{Do, Retouch, Picture, Pictures, Ram, Digest, Lag, Movie, States, Share, History, Begin, Commit, Drop, Quit}
+use Rattle.tas_language.specs.declared.request.Request.TheVariants.{Do, Retouch, Picture, Pictures, Ram, Digest, Lag, Inputs, Movie, States, Share, History, Version, Begin, Commit, Drop, Quit}
 use Rattle.tas_published.specs.Strokes.{edited_by, refusal_in}
 use Rattle.tas_seat.specs.Turns.{standing_of, refusal_reply}
 use Rattle.tas_seat.specs.Seats.{entries_from, talk_state_at}
@@ -59,10 +59,12 @@ began_as draft next (Pictures from to) answer (strip, long, are, told) = began_a
 began_as draft next (Ram k) answer is = began_as_in draft next (Ram k) answer is
 began_as draft next (Digest k) answer is = began_as_in draft next (Digest k) answer is
 began_as draft next (Lag a b) answer is = began_as_in draft next (Lag a b) answer is
+began_as draft next (Inputs a b) answer is = began_as_in draft next (Inputs a b) answer is.0
 began_as draft next Movie answer is = began_as_in draft next Movie answer is.0
 began_as draft next States answer is = began_as_in draft next States answer is.0
 began_as draft next Share answer is = absurd is
 began_as draft next (History from) answer is = began_as_in draft next (History from) answer is
+began_as draft next Version answer is = began_as_in draft next Version answer is
 began_as draft next Begin answer is = began_as_in draft next Begin answer is
 began_as draft next Commit answer is = began_as_in draft next Commit answer is
 began_as draft next Drop answer is = began_as_in draft next Drop answer is
@@ -128,15 +130,15 @@ tied_talk : (A : Type 0) (before : SeatContent A) (draft : Option DraftContent) 
 tied_talk A before None now request answer edits is more tied = tied_outside (subject_of request) A before now request answer edits is
 tied_talk A before (Some draft) now request answer edits is more tied = tied_inside (subject_of request) A before draft now request answer edits is more tied
 
-tied_line : (A : Type 0) (before now : TalkingSeat A) (heard : Option Request) (answer : List ℕ) (edits : List (Edit A)) → IsLineAnswered A before now heard answer edits → IsTied before.seat before.draft → IsTied now.seat now.draft
-tied_line A before now (Some request) answer edits is tied =
-    tied_talk A before.seat before.draft now request answer edits is (line_leaves A before now (Some request) answer edits is).seen tied
-tied_line A before now None answer edits (told, none, same) tied = subst (λ (s : TalkingSeat A). IsTied s.seat s.draft) (sym same) tied
+tied_line : (A : Type 0) (before now : TalkingSeat A) (said : List ℕ) (heard : Option Request) (answer : List ℕ) (edits : List (Edit A)) → IsLineAnswered A before now said heard answer edits → IsTied before.seat before.draft → IsTied now.seat now.draft
+tied_line A before now said (Some request) answer edits is tied =
+    tied_talk A before.seat before.draft now request answer edits is (line_leaves A before now said (Some request) answer edits is).seen tied
+tied_line A before now said None answer edits (told, none, same) tied = subst (λ (s : TalkingSeat A). IsTied s.seat s.draft) (sym same) tied
 
 pub tied_exchanges : {A : Type 0} (start last : TalkingSeat A) (xs : List (Exchange A)) → AreExchanges start xs last → IsTied start.seat start.draft → IsTied last.seat last.draft
 unfolding AreExchanges
 tied_exchanges {A} start last [] is tied = subst (λ (s : TalkingSeat A). IsTied s.seat s.draft) (sym is) tied
-tied_exchanges {A} start last (x ∷ xs) is tied = tied_exchanges x.next last xs is.1 (tied_line A start x.next x.heard x.answer x.edits is.0.answered tied)
+tied_exchanges {A} start last (x ∷ xs) is tied = tied_exchanges x.next last xs is.1 (tied_line A start x.next x.said x.heard x.answer x.edits is.0.answered tied)
 
 -- ---- the history at which it began
 
@@ -211,5 +213,5 @@ pub commit_makes_draft : {A : Type 0} (start : SeatContent A) (seat : TalkingSea
     → x.heard ≡ Some Commit → x.next.draft ≡ None → movie_of x.next.seat.front ≡ draft.movie
 commit_makes_draft {A} start seat xs x draft are is opened heard gone =
     let there : IsTalkAnswered A seat.seat (Some draft) x.next Commit x.answer x.edits =
-    subst (λ (d : Option DraftContent). IsTalkAnswered A seat.seat d x.next Commit x.answer x.edits) opened (subst (λ (h : Option Request). IsLineAnswered A seat x.next h x.answer x.edits) heard is.answered) in
+    subst (λ (d : Option DraftContent). IsTalkAnswered A seat.seat d x.next Commit x.answer x.edits) opened (subst (λ (h : Option Request). IsLineAnswered A seat x.next x.said h x.answer x.edits) heard is.answered) in
     committed A seat.seat draft x.next x.answer x.edits (tied_draft start seat xs draft are opened) there gone

@@ -1,8 +1,10 @@
 -- Answers at drafts.
-use Rattle.std.proofs.Common.{◌≡◌, ℕ, ◌+◌, ◌<◌, ◌≤◌, List, length, true, false, Option, Some, None, Result, Ok, Err, IfOk, inl, inr, refl, sym, ap, subst, ◌∙◌, arith}
+use Rattle.std.proofs.Common.{◌≡◌, ℕ, ◌+◌, ◌<◌, ◌≤◌, List, length, Bool, true, false, Option, Some, None, Result, Ok, Err, IfOk, ◌⊎◌, inl, inr, refl, sym, ap, subst, ◌∙◌, arith}
 use Rattle.std.specs.Prelude.{MatchOption, MatchResult, OnOk, OnErr, IfErr, IsOk}
+use Rattle.std.proofs.lemmas.Result.{IfOk-weaker, MatchResult-weaker}
 use Rattle.vcs_cpu.specs.declared.halt.Halt.{Halt}
 use Rattle.vcs_machine.specs.declared.state.State.{State}
+use Rattle.vcs_machine.specs.Machine.{profile}
 use Rattle.vcs_tia.specs.Image.{ppm_bytes}
 use Rattle.vcs_tia.specs.Picture.{lit_count}
 use Rattle.tas_movie.specs.Content.{MovieContent}
@@ -30,18 +32,18 @@ use Rattle.tas_language.specs.declared.reply.Reply.{Reply}
 use Rattle.tas_language.specs.declared.reply.Reply.TheVariants.{Drawn, OutOfMemory}
 use Rattle.tas_language.specs.Replies.{reply_text}
 use Rattle.tas_language.specs.declared.request.Request.{Request}
-use Rattle.tas_language.specs.declared.request.Request.TheVariants.{Do, Picture, Ram, Digest, Lag, Movie, States}
-use Rattle.tas_language.specs.Answers.{picture_text, movie_text, states_text}
+use Rattle.tas_language.specs.declared.request.Request.TheVariants.{Do, Picture, Ram, Digest, Lag, Inputs, Movie, States, Version}
+use Rattle.tas_language.specs.Answers.{picture_text, frame_digest_text, movie_text, states_text, version_text}
 use Rattle.tas_seat.specs.Turns.{standing_at}
 use Rattle.tas_seat.specs.Edits.{requested_edits, made_between}
-use Rattle.tas_seat.specs.Requests.{TalkState, Rests, Plays, Gains, look_text, look_places, IsLooked, IsAnswerTo, kept_frames}
+use Rattle.tas_seat.specs.Requests.{TalkState, Rests, Plays, Gains, picture_found, digest_found, look_text, look_places, IsLooked, IsAnswerTo, GainsUnless, kept_frames, inputs_found, answer_to_inputs}
 use Rattle.tas_seat.specs.Drafts.{DraftContent, draft_of, draft_standing, draft_state, left_by_edits, near_left_by_edits, LeavesNear, IsAnsweredInDraft, IsDraftAnswered}
 use Rattle.tas_seat.specs.Inside.Looking.{AsksForState, HasText, HasReport}
 use Rattle.tas_seat.specs.Inside.Drafting.{with_states, IsDraftPlayed, IsDraftViewed, IsDraftDrawn, IsDraftShot, IsDraftPicture, IsDraftStateFor, HasNoDraftAnswer}
 use Rattle.tas_seat.specs.Outcomes.{unshown_as}
 use Rattle.tas_seat.proofs.SeatLemmas.{made_none}
 use Rattle.tas_seat.proofs.TextLemmas.{text_or_memory, made_or_memory}
-use Rattle.tas_seat.proofs.ReachLemmas.{shown_frame, lag_ignored, of_looks, looked_as, same_or_left, state_told, picture_told, shot_told}
+use Rattle.tas_seat.proofs.ReachLemmas.{shown_frame, lag_ignored, of_looks, looked_as, same_or_left, state_told, drawn_told, of_ok, shown_within, shot_told}
 
 -- ---- answers and faults
 
@@ -166,7 +168,7 @@ looked_in before now look at answer is told =
     of_looks (λ (l : Request). MatchOption (look_places l) ⊥ (λ f. IsLooked (draft_standing before) (look_text (draft_standing before) l) (now ≡ before) (IsDraftViewed before now f.0 f.1) answer) → IsDraftAnswered before l answer now) at look is
     (λ k found. in_draft (Picture k) (k, k + 1) found (refl, plays_in _ (k, k + 1) found) (views_in _ (k, k + 1) found))
     (λ k found. in_draft (Ram k) (k, k) found (refl, plays_in _ (k, k) found) (views_in _ (k, k) found))
-    (λ k found. in_draft (Digest k) (k, k) found (refl, plays_in _ (k, k) found) (views_in _ (k, k) found))
+    (λ k found. in_draft (Digest k) (k, k + 1) found (refl, plays_in _ (k, k + 1) found) (views_in _ (k, k + 1) found))
     (λ a b found. in_draft (Lag a b) (a, a) found ((refl, plays_in _ (a, a) found), lag_ignored before.movie) (views_in _ (a, a) found))
     (subst (λ (o : Option (ℕ × ℕ)). MatchOption o ⊥ (λ f. IsLooked (draft_standing before) (look_text (draft_standing before) look) (now ≡ before) (IsDraftViewed before now f.0 f.1) answer)) (sym is) told)
   where
@@ -198,8 +200,28 @@ pub picture_answered : {X B : Type 0} (before now : DraftContent) (k : ℕ) (dra
     → MatchResult drawn (λ shot. HasText r bytes_of (Some (picture_text shot.at k (ppm_bytes shot.picture)))) (λ error. HasReport r bytes_of error)
     → MatchResult r (λ bytes. IsDraftAnswered before (Picture k) (bytes_of bytes) now) (HasNoDraftAnswer before now (Picture k))
 picture_answered before now k drawn r bytes_of is has =
-    picture_told (λ (answer : List ℕ). IsDraftAnswered before (Picture k) answer now) (HasNoDraftAnswer before now (Picture k)) before.movie (before.at + before.made) k ⊥ (now ≡ before) (IsDraftViewed before now k (k + 1)) drawn r bytes_of is has
-    (λ answer told. looked_in before now (Picture k) (k, k + 1) answer refl told) (λ none. absurd none) (λ answer told. untold before now (Picture k) answer told)
+    drawn_told (λ (answer : List ℕ). IsDraftAnswered before (Picture k) answer now) (HasNoDraftAnswer before now (Picture k)) before.movie (before.at + before.made) k (Picture k) (picture_found (draft_standing before) k) (λ n p. picture_text n k (ppm_bytes p)) ⊥
+    (now ≡ before) (IsDraftViewed before now k (k + 1)) drawn r bytes_of refl (λ halt. refl) (of_ok drawn _ (λ shot. refl)) is has (λ answer told. looked_in before now (Picture k) (k, k + 1) answer refl told) (λ none. absurd none)
+    (λ answer told. untold before now (Picture k) answer told)
+
+-- the movie of the view that has drawn it is as before
+viewed_as : {B : Type 0} (before now : DraftContent) (name : MovieContent) (k : ℕ) (drawn : Result (ShotOf B) ShotError) → name ≡ now.movie → IsDraftPicture before now k drawn → IfOk drawn (λ shot. name ≡ before.movie)
+viewed_as before now name k (Ok shot) named is = named ∙ ap (λ (d : DraftContent). d.movie) is.3.rest
+viewed_as before now name k (Err error) named is = tt
+
+pub digest_answered : {X B : Type 0} (before now : DraftContent) (name : MovieContent) (k : ℕ) (drawn : Result (ShotOf B) ShotError) (r : Result X RunFault) (bytes_of : X → List ℕ) → IsDraftPicture before now k drawn → name ≡ now.movie
+    → MatchResult drawn (λ shot. HasText r bytes_of (Some (frame_digest_text shot.at k (state_after name (k + 1)).riot.ram (ppm_bytes shot.picture)))) (λ error. HasReport r bytes_of error)
+    → MatchResult r (λ bytes. IsDraftAnswered before (Digest k) (bytes_of bytes) now) (HasNoDraftAnswer before now (Digest k))
+digest_answered before now name k drawn r bytes_of is named has =
+    drawn_told (λ (answer : List ℕ). IsDraftAnswered before (Digest k) answer now) (HasNoDraftAnswer before now (Digest k)) before.movie (before.at + before.made) k (Digest k) (digest_found (draft_standing before) k)
+    (λ n p. frame_digest_text n k (state_after name (k + 1)).riot.ram (ppm_bytes p)) ⊥ (now ≡ before) (IsDraftViewed before now k (k + 1)) drawn r bytes_of refl (λ halt. refl)
+    (IfOk-weaker drawn _ _ (λ shot e. ap (λ (m : MovieContent). frame_digest_text (before.at + before.made) k (state_after m (k + 1)).riot.ram (ppm_bytes shot.picture)) e) (viewed_as before now name k drawn named is)) is has
+    (λ answer told. looked_in before now (Digest k) (k, k + 1) answer refl told) (λ none. absurd none) (λ answer told. untold before now (Digest k) answer told)
+
+-- the movie has the frame that was drawn
+pub frame_in : {B : Type 0} (before now : DraftContent) (name : MovieContent) (k : ℕ) (drawn : Result (ShotOf B) ShotError) → name ≡ now.movie → IsDraftPicture before now k drawn → OnOk drawn (k < length name.inputs)
+frame_in before now name k (Ok shot) named is = subst (λ (m : MovieContent). k < length m.inputs) (sym (named ∙ ap (λ (d : DraftContent). d.movie) is.3.rest)) (shown_within before.movie k (Ok shot.picture) is.0)
+frame_in before now name k (Err error) named is = tt
 
 pub look_answered : {X : Type 0} (before now : DraftContent) (name : MovieContent) (look : Request) (from to : ℕ) (reached : Result Reached StateError) (r : Result X RunFault) (bytes_of : X → List ℕ) → AsksForState look from to
     → IsDraftStateFor before now from to reached → name ≡ now.movie → MatchResult reached (λ found. HasText r bytes_of (look_text (standing_at name found.at) look)) (λ error. HasReport r bytes_of (shot_error error))
@@ -217,6 +239,21 @@ movie_answered draft at lawful here =
 pub lost_movie : (draft : DraftContent) → IsDraftAnswered draft Movie (reply_text OutOfMemory) draft
 lost_movie draft = (glanced draft draft Movie (reply_text OutOfMemory) refl (true, refl, refl, inl (rests draft draft refl)) (λ near. near), refl)
 
+inputs_here : (draft : DraftContent) (from to : ℕ) (no_memory : Bool) → GainsUnless no_memory (draft_state draft) (state_with draft draft.states) → IsDraftAnswered draft (Inputs from to) (answer_to_inputs no_memory (draft_standing draft) from to) draft
+inputs_here draft from to no_memory leaves = (glanced draft draft (Inputs from to) (answer_to_inputs no_memory (draft_standing draft) from to) refl (no_memory, refl, refl, leaves) (λ near. near), refl)
+
+pub inputs_answered : {X : Type 0} (draft : DraftContent) (at from to : ℕ) (movie : MovieContent) (r : Result X RunFault) (bytes_of : X → List ℕ) → IsLawful draft.movie draft.states → at ≡ draft.at + draft.made → movie ≡ draft.movie
+    → MatchResult r (λ bytes. (bytes_of bytes ≡ inputs_found (standing_at movie at) from to) ⊎ (bytes_of bytes ≡ reply_text OutOfMemory)) (λ fault. fault ≡ Memory)
+    → MatchResult r (λ bytes. IsDraftAnswered draft (Inputs from to) (bytes_of bytes) draft) (HasNoDraftAnswer draft draft (Inputs from to))
+inputs_answered draft at from to movie r bytes_of lawful here is has =
+    let name = ap (λ (n : ℕ). inputs_found (standing_at movie n) from to) here ∙ ap (λ (m : MovieContent). inputs_found (standing_at m (draft.at + draft.made)) from to) is in
+    let told = inputs_here draft from to false (gains_none draft lawful) in
+    let lost = inputs_here draft from to true (inl (rests draft draft refl)) in
+    MatchResult-weaker r has (λ bytes e. elim e [
+      | inl found ↦ subst (λ (l : List ℕ). IsDraftAnswered draft (Inputs from to) l draft) (sym (found ∙ name)) told
+      | inr refused ↦ subst (λ (l : List ℕ). IsDraftAnswered draft (Inputs from to) l draft) (sym refused) lost
+    ]) (λ fault e. (e, inr (reply_text OutOfMemory, lost)))
+
 pub states_answered : (draft : DraftContent) (at : ℕ) → IsLawful draft.movie draft.states → at ≡ draft.at + draft.made
     → IsDraftAnswered draft States (states_text at (kept_frames (length draft.movie.inputs) draft.states)) draft
 states_answered draft at lawful here =
@@ -225,6 +262,17 @@ states_answered draft at lawful here =
 
 pub lost_states : (draft : DraftContent) → IsDraftAnswered draft States (reply_text OutOfMemory) draft
 lost_states draft = (glanced draft draft States (reply_text OutOfMemory) refl (true, refl, refl, inl (rests draft draft refl)) (λ near. near), refl)
+
+-- ---- `version`
+
+version_here : (draft : DraftContent) → IsDraftAnswered draft Version (version_text profile) draft
+version_here draft = glanced draft draft Version (version_text profile) refl (refl, refl, rests draft draft refl) (λ near. near)
+
+pub version_answered : (draft : DraftContent) (answer : List ℕ) → answer ≡ version_text profile → IsDraftAnswered draft Version answer draft
+version_answered draft answer is = subst (λ (l : List ℕ). IsDraftAnswered draft Version l draft) (sym is) (version_here draft)
+
+pub lost_version : (draft : DraftContent) (fault : RunFault) → fault ≡ Memory → HasNoDraftAnswer draft draft Version fault
+lost_version draft fault is = (is, inr (version_text profile, version_here draft))
 
 -- ---- of what was computed
 

@@ -5,7 +5,7 @@ use Rattle.std.proofs.lemmas.Result.{MatchResult-weaker}
 use Rattle.tas_engines.specs.declared.fault.RunFault.{RunFault}
 use Rattle.tas_engines.specs.declared.fault.RunFault.TheVariants.{NoEntry, Foreign, Memory}
 use Rattle.tas_language.specs.declared.request.Request.{Request}
-use Rattle.tas_language.specs.declared.request.Request.TheVariants.{Do, Retouch, Picture, Pictures, Ram, Digest, Lag, Movie, States, Share, History, Begin, Commit, Drop, Quit}
+use Rattle.tas_language.specs.declared.request.Request.TheVariants.{Do, Retouch, Picture, Pictures, Ram, Digest, Lag, Inputs, Movie, States, Share, History, Version, Begin, Commit, Drop, Quit}
 use Rattle.tas_seat.specs.declared.conversation.Subject.TheVariants.{Movie as AboutMovie}
 use Rattle.tas_seat.specs.Subjects.{subject_of}
 use Rattle.tas_seat.specs.Outcomes.{IsLook}
@@ -52,10 +52,12 @@ look_subject (Pictures from to) look = refl
 look_subject (Ram k) look = refl
 look_subject (Digest k) look = refl
 look_subject (Lag from to) look = refl
+look_subject (Inputs a b) look = refl
 look_subject Movie look = refl
 look_subject States look = refl
 look_subject Share look = absurd look
 look_subject (History from) look = absurd look
+look_subject Version look = refl
 look_subject Begin look = absurd look
 look_subject Commit look = absurd look
 look_subject Drop look = absurd look

@@ -15,7 +15,7 @@ use Rattle.tas_engines.specs.declared.fault.ToolFault.TheVariants.{Read, Run, Se
 use Rattle.tas_engines.specs.declared.fault.ReadFault.TheVariants.{TooLong, Failed, Memory as NoRoom}
 use Rattle.tas_engines.specs.declared.fault.RunFault.TheVariants.{Write, Size, Text, NoFrame as OffMovie, Range as OffRange, Halted as Stopped, HaltedFrame as StoppedFrame, Script, Place, Long, Names as NoNames, NoPlace, NoEntry, Foreign, Memory}
 use Rattle.tas_language.specs.declared.request.Request.{Request}
-use Rattle.tas_language.specs.declared.request.Request.TheVariants.{Do, Retouch, Picture, Pictures, Ram, Digest, Lag, Movie, States, Share, History, Begin, Commit, Drop, Quit}
+use Rattle.tas_language.specs.declared.request.Request.TheVariants.{Do, Retouch, Picture, Pictures, Ram, Digest, Lag, Inputs, Movie, States, Share, History, Version, Begin, Commit, Drop, Quit}
 use Rattle.tas_seat.specs.Requests.{StripAnswer, AreShown}
 use Rattle.tas_seat.specs.Seats.{entries_from, IsSeatAfter, IsPictureAt, IsAnsweredAt, IsRequestAnswered}
 use Rattle.tas_seat.specs.declared.conversation.Subject.{Subject}
@@ -176,9 +176,11 @@ request_leaves A before now (Picture k) answer edits is = answered_leaves A befo
 request_leaves A before now (Ram k) answer edits is = answered_leaves A before now (Ram k) answer edits is
 request_leaves A before now (Digest k) answer edits is = answered_leaves A before now (Digest k) answer edits is
 request_leaves A before now (Lag a b) answer edits is = answered_leaves A before now (Lag a b) answer edits is
+request_leaves A before now (Inputs a b) answer edits is = answered_leaves A before now (Inputs a b) answer edits is
 request_leaves A before now Movie answer edits is = answered_leaves A before now Movie answer edits is
 request_leaves A before now States answer edits is = answered_leaves A before now States answer edits is
 request_leaves A before now Share answer edits is = answered_leaves A before now Share answer edits is
+request_leaves A before now Version answer edits is = answered_leaves A before now Version answer edits is
 request_leaves A before now Begin answer edits is = answered_leaves A before now Begin answer edits is
 request_leaves A before now Commit answer edits is = answered_leaves A before now Commit answer edits is
 request_leaves A before now Drop answer edits is = answered_leaves A before now Drop answer edits is
@@ -209,14 +211,14 @@ talk_leaves : (A : Type 0) (before : SeatContent A) (draft : Option DraftContent
 talk_leaves A before None now request answer edits is = outside_leaves (subject_of request) A before now request answer edits is
 talk_leaves A before (Some draft) now request answer edits is = inside_leaves (subject_of request) A before draft now request answer edits is
 
-pub line_leaves : (A : Type 0) (before now : TalkingSeat A) (heard : Option Request) (answer : List ℕ) (edits : List (Edit A)) → IsLineAnswered A before now heard answer edits → Leaves before.seat now.seat edits
-line_leaves A before now (Some request) answer edits is = talk_leaves A before.seat before.draft now request answer edits is
-line_leaves A before now None answer edits (told, none, same) = leaves_none before.seat now.seat edits none (leaves_same before.seat now.seat (ap (λ (s : TalkingSeat A). s.seat) same))
+pub line_leaves : (A : Type 0) (before now : TalkingSeat A) (said : List ℕ) (heard : Option Request) (answer : List ℕ) (edits : List (Edit A)) → IsLineAnswered A before now said heard answer edits → Leaves before.seat now.seat edits
+line_leaves A before now said (Some request) answer edits is = talk_leaves A before.seat before.draft now request answer edits is
+line_leaves A before now said None answer edits (told, none, same) = leaves_none before.seat now.seat edits none (leaves_same before.seat now.seat (ap (λ (s : TalkingSeat A). s.seat) same))
 
 -- ---- all lines
 
 pub exchange_leaves : {A : Type 0} (seat : TalkingSeat A) (x : Exchange A) → IsExchange seat x → Leaves seat.seat x.next.seat x.edits
-exchange_leaves {A} seat x is = line_leaves A seat x.next x.heard x.answer x.edits is.answered
+exchange_leaves {A} seat x is = line_leaves A seat x.next x.said x.heard x.answer x.edits is.answered
 
 pub exchanges_leave : {A : Type 0} (start last : TalkingSeat A) (xs : List (Exchange A)) → AreExchanges start xs last → Leaves start.seat last.seat (edits_of xs)
 unfolding AreExchanges

@@ -1,18 +1,17 @@
 -- Looks, wherever they are answered.
-use Rattle.std.proofs.Common.{◌≡◌, ℕ, ◌+◌, ◌%◌, ◌^◌, ◌<◌, ◌≤◌, Bool, cond, true, false, List, [], ◌∷◌, ◌++◌, length, take, drop, get_or, Option, Some, None, Result, Ok, Err, IfOk, ◌⊎◌, inl, inr, refl, sym, ap, subst, ◌∙◌, arith}
+use Rattle.std.proofs.Common.{◌≡◌, ℕ, ◌+◌, ◌-◌, ◌<◌, ◌≤◌, Bool, cond, true, false, List, [], ◌∷◌, ◌++◌, length, take, drop, get_or, Option, Some, None, Result, Ok, Err, IfOk, ◌⊎◌, inl, inr, refl, sym, ap, subst, ◌∙◌, arith}
 use Rattle.std.specs.Prelude.{nat_le, nat_lt, ◌&&◌, if◌then◌else◌, MatchResult}
 use Rattle.std.specs.Option.{option_map}
-use Rattle.std.proofs.Math.Nat.{mod-eq_of_lt, mod_self}
 use Rattle.std.proofs.lemmas.Bool.{cases_lt, lt-ltb}
 use Rattle.std.proofs.lemmas.Bool.Decides.{nat_tests}
 use Rattle.std.proofs.lemmas.List.{length-append, length-take-le, length-drop}
 use Rattle.std.proofs.lemmas.Result.{MatchResult-weaker}
+use Rattle.vcs_cpu.specs.declared.halt.Halt.{Halt}
 use Rattle.vcs_cpu.specs.declared.halt.Halt.TheVariants.{Undocumented}
 use Rattle.vcs_inputs.specs.declared.input.Input.{Input}
 use Rattle.vcs_machine.specs.declared.state.State.{State}
 use Rattle.vcs_inputs.specs.Input.{no_input}
 use Rattle.vcs_machine.proofs.LagFrames.{lag_law}
-use Rattle.vcs_tia.specs.Image.{ppm_bytes}
 use Rattle.vcs_tia.specs.Picture.{lit_count}
 use Rattle.tas_movie.specs.Content.{MovieContent, most_inputs, blank_movie}
 use Rattle.tas_movie.specs.declared.edit.Edit.{Edit}
@@ -41,10 +40,10 @@ use Rattle.tas_language.specs.declared.reply.Reply.{Reply}
 use Rattle.tas_language.specs.declared.reply.Reply.TheVariants.{NoFrame, Drawn, OutOfMemory}
 use Rattle.tas_language.specs.Replies.{reply_text}
 use Rattle.tas_language.specs.declared.request.Request.{Request}
-use Rattle.tas_language.specs.declared.request.Request.TheVariants.{Do, Retouch, Picture, Pictures, Ram, Digest, Lag, Movie, States, Share, History, Begin, Commit, Drop, Quit}
-use Rattle.tas_language.specs.Answers.{picture_text, ram_text, lag_text}
+use Rattle.tas_language.specs.declared.request.Request.TheVariants.{Do, Retouch, Picture, Pictures, Ram, Digest, Lag, Inputs, Movie, States, Share, History, Version, Begin, Commit, Drop, Quit}
+use Rattle.tas_language.specs.Answers.{ram_text, lag_text, inputs_text}
 use Rattle.tas_seat.specs.Turns.{Standing, Unforeseen, standing_at, halted_reply, shot_reply, IsTurn}
-use Rattle.tas_seat.specs.Requests.{ShotLeaves, picture_found, digest_found, look_text, look_places, IsLooked}
+use Rattle.tas_seat.specs.Requests.{ShotLeaves, look_text, look_places, IsLooked, inputs_found}
 use Rattle.tas_seat.specs.Outcomes.{unshown_as}
 use Rattle.tas_seat.specs.Inside.Looking.{IsShotFound, IsStateFound, CanLook, AsksForState, HasText, HasReport}
 use Rattle.tas_seat.proofs.EditLemmas.{unforeseen}
@@ -67,6 +66,14 @@ not_both : (p q : Bool) → (p ≡ true → q ≡ true → ⊥) → (p && q) ≡
 not_both true true never = absurd (never refl refl)
 not_both true false never = refl
 not_both false q never = refl
+
+-- and where a frame shows something, the movie has it
+pub shown_within : (movie : MovieContent) (k : ℕ) (shown : Result (List ℕ) Halt) → answer_shot movie k ≡ Some shown → k < length movie.inputs
+shown_within movie k shown is =
+    elim (cases_lt k (length movie.inputs)) [
+      | inl within ↦ within
+      | inr past ↦ absurd (cc (sym (shot_none movie k past) ∙ is))
+    ]
 
 -- ---- a movie's length fits a word
 
@@ -120,26 +127,6 @@ few_from movie (entry ∷ entries) few = few_from (edited movie entry.edit) entr
 pub few_inputs : {A : Type 0} (history : List (Entry A)) → length (movie_of history).inputs ≤ most_inputs
 few_inputs history = few_from blank_movie history (omega arith)
 
--- the place after a frame, modulo the words, is a place of the movie after it just where the movie has the frame
-next_place : (k n : ℕ) → k < 2 ^ 64 → k ≤ (k + 1) % 2 ^ 64 → (k + 1) % 2 ^ 64 ≤ n → k < n
-next_place k n fits order within =
-    elim (cases_lt (k + 1) (2 ^ 64)) [
-      | inl small ↦ let is = mod-eq_of_lt small in omega (arith, is, within)
-      | inr large ↦
-          let last : k + 1 ≡ 2 ^ 64 = omega (arith, fits, large) in
-          let none : (k + 1) % 2 ^ 64 ≡ 0 = ap (λ (m : ℕ). m % 2 ^ 64) last ∙ mod_self (2 ^ 64) in
-          omega (arith, none, order, last)
-    ]
-
-no_next_place : (k n : ℕ) → n ≤ most_inputs → (k ≤ (k + 1) % 2 ^ 64 → (k + 1) % 2 ^ 64 ≤ n → ⊥) → n ≤ k
-no_next_place k n few never =
-    elim (cases_lt k n) [
-      | inl within ↦
-          let small : k + 1 < 2 ^ 64 = omega (arith, few, within) in
-          let is = mod-eq_of_lt small in absurd (never (omega (arith, is)) (omega (arith, is, within)))
-      | inr past ↦ past
-    ]
-
 -- ---- what looks at a state ask for
 
 pub ram_there : (stands : Standing) (k : ℕ) → k ≤ length stands.movie.inputs → look_text stands (Ram k) ≡ Some (ram_text stands.made k (state_after stands.movie k).riot.ram)
@@ -156,18 +143,7 @@ ram_none stands k never =
     ap (λ (b : Bool). if b then Some (ram_text stands.made k (state_after stands.movie k).riot.ram) else None) no
 
 pub ram_asks : (k : ℕ) → AsksForState (Ram k) k k
-ram_asks k = record { places = refl; can = λ movie order within. (within, refl); found = λ stands order within. (_, ram_there stands k within); none = λ stands few never. ram_none stands k never }
-
-pub digest_asks : (k to : ℕ) → k < 2 ^ 64 → to ≡ (k + 1) % 2 ^ 64 → AsksForState (Digest k) k to
-digest_asks k to fits next = record {
-  places = refl;
-  can = λ movie order within. (has (length movie.inputs) order within, refl);
-  found = λ stands order within. (_, ap (option_map (digest_found stands k)) (shown_frame stands.movie k (has (length stands.movie.inputs) order within)));
-  none = λ stands few never. ap (option_map (digest_found stands k)) (shot_none stands.movie k (no_next_place k (length stands.movie.inputs) few (subst (λ (t : ℕ). k ≤ t → t ≤ length stands.movie.inputs → ⊥) next never)));
-}
-  where
-    has : (n : ℕ) → k ≤ to → to ≤ n → k < n
-    has n order within = next_place k n fits (subst (λ (t : ℕ). k ≤ t) next order) (subst (λ (t : ℕ). t ≤ n) next within)
+ram_asks k = record { places = refl; can = λ movie order within. (within, refl); found = λ stands order within. (_, ram_there stands k within); none = λ stands never. ram_none stands k never }
 
 pub lag_there : (stands : Standing) (a b : ℕ) → a ≤ b → b ≤ length stands.movie.inputs → look_text stands (Lag a b) ≡ Some (lag_text stands.made a b (lag_lines_between stands.movie a b))
 lag_there stands a b order within =
@@ -178,8 +154,20 @@ lag_none stands a b never =
     ap (λ (t : Bool). if t then Some (lag_text stands.made a b (lag_lines_between stands.movie a b)) else None)
     (not_both (nat_le a b) (nat_le b (length stands.movie.inputs)) (λ (p : nat_le a b ≡ true) (q : nat_le b (length stands.movie.inputs) ≡ true). never (grind (arith, nat_tests)) (grind (arith, nat_tests))))
 
+-- what `inputs` finds
+
+pub inputs_there : (stands : Standing) (a b : ℕ) → a ≤ b → b ≤ length stands.movie.inputs → inputs_found stands a b ≡ inputs_text stands.made a b (take (b - a) (drop a stands.movie.inputs))
+inputs_there stands a b order within =
+    ap (λ (t : Bool). if t then inputs_text stands.made a b (take (b - a) (drop a stands.movie.inputs)) else reply_text (NoFrame stands.made (length stands.movie.inputs)))
+    (both_true (nat_le a b) (nat_le b (length stands.movie.inputs)) (grind (arith, nat_tests)) (grind (arith, nat_tests)))
+
+pub inputs_none : (stands : Standing) (a b : ℕ) → (a ≤ b → b ≤ length stands.movie.inputs → ⊥) → inputs_found stands a b ≡ reply_text (NoFrame stands.made (length stands.movie.inputs))
+inputs_none stands a b never =
+    ap (λ (t : Bool). if t then inputs_text stands.made a b (take (b - a) (drop a stands.movie.inputs)) else reply_text (NoFrame stands.made (length stands.movie.inputs)))
+    (not_both (nat_le a b) (nat_le b (length stands.movie.inputs)) (λ (p : nat_le a b ≡ true) (q : nat_le b (length stands.movie.inputs) ≡ true). never (grind (arith, nat_tests)) (grind (arith, nat_tests))))
+
 pub lag_asks : (a b : ℕ) → AsksForState (Lag a b) a b
-lag_asks a b = record { places = refl; can = λ movie order within. (order, within, refl); found = λ stands order within. (_, lag_there stands a b order within); none = λ stands few never. lag_none stands a b never }
+lag_asks a b = record { places = refl; can = λ movie order within. (order, within, refl); found = λ stands order within. (_, lag_there stands a b order within); none = λ stands never. lag_none stands a b never }
 
 pub lag_ignored : (movie : MovieContent) → LagFramesIgnoreInput movie
 lag_ignored movie = λ k other is. lag_law movie.cart (state_after movie k) (get_or movie.inputs k no_input) other is
@@ -202,10 +190,12 @@ of_looks P at (Lag a b) is picture ram digest lag = lag a b
 of_looks P at (Do command) is picture ram digest lag = absurd (cc is)
 of_looks P at (Retouch retouch) is picture ram digest lag = absurd (cc is)
 of_looks P at (Pictures from to) is picture ram digest lag = absurd (cc is)
+of_looks P at (Inputs from to) is picture ram digest lag = absurd (cc is)
 of_looks P at Movie is picture ram digest lag = absurd (cc is)
 of_looks P at States is picture ram digest lag = absurd (cc is)
 of_looks P at Share is picture ram digest lag = absurd (cc is)
 of_looks P at (History from) is picture ram digest lag = absurd (cc is)
+of_looks P at Version is picture ram digest lag = absurd (cc is)
 of_looks P at Begin is picture ram digest lag = absurd (cc is)
 of_looks P at Commit is picture ram digest lag = absurd (cc is)
 of_looks P at Drop is picture ram digest lag = absurd (cc is)
@@ -257,32 +247,38 @@ state_told P Q movie name made look from to entry same left (Ok found) r bytes_o
     (sym (ap (λ (m : MovieContent). look_text (standing_at m found.at) look) named ∙ ap (λ (n : ℕ). look_text (standing_at movie n) look) is.3)) (found.ran, is.4) has told lost
 state_told {X} P Q movie name made look from to entry same left (Err NoStateEntry) r bytes_of asks is named has told none lost = subst (λ (x : Result X RunFault). MatchResult x (λ x. P (bytes_of x)) Q) (sym has) (none is)
 state_told P Q movie name made look from to entry same left (Err (FewFrames at len)) r bytes_of asks is named has told none lost =
-    let few = subst (λ (n : ℕ). n ≤ most_inputs) is.2 is.3 in
     text_or_memory P Q (reply_text (NoFrame at len)) r bytes_of has
-    (told (reply_text (NoFrame at len)) (looked_none (standing_at movie made) (look_text (standing_at movie made) look) at len same left (asks.none (standing_at movie made) few is.0) is.1 is.2 is.4)) (lost (reply_text (NoFrame at len)))
+    (told (reply_text (NoFrame at len)) (looked_none (standing_at movie made) (look_text (standing_at movie made) look) at len same left (asks.none (standing_at movie made) is.0) is.1 is.2 is.3)) (lost (reply_text (NoFrame at len)))
 state_told P Q movie name made look from to entry same left (Err NoStateMemory) r bytes_of asks is named has told none lost =
     let there = asks.found (standing_at movie made) is.0 is.1 in
     text_or_memory P Q (reply_text OutOfMemory) r bytes_of has (told (reply_text OutOfMemory) (looked_lost (standing_at movie made) (look_text (standing_at movie made) look) there.0 same left there.1 is.2)) (lost (reply_text OutOfMemory))
 
--- a picture
-pub picture_told : {X B : Type 0} (P : List ℕ → Type 0) (Q : RunFault → Type 0) (movie : MovieContent) (made k : ℕ) (entry same : Type 0) (left : ℕ → Type 0) (drawn : Result (ShotOf B) ShotError) (r : Result X RunFault) (bytes_of : X → List ℕ)
-    → IsShotFound (standing_at movie made) entry same left k drawn → MatchResult drawn (λ shot. HasText r bytes_of (Some (picture_text shot.at k (ppm_bytes shot.picture)))) (λ error. HasReport r bytes_of error)
-    → ((answer : List ℕ) → IsLooked (standing_at movie made) (look_text (standing_at movie made) (Picture k)) same left answer → P answer) → (entry → Q NoEntry) → ((answer : List ℕ) → P answer → Q Memory) → MatchResult r (λ x. P (bytes_of x)) Q
-picture_told P Q movie made k entry same left (Ok shot) r bytes_of is has told none lost =
-    let there = ap (option_map (picture_found (standing_at movie made) k)) is.0 in
-    text_told P Q (standing_at movie made) (look_text (standing_at movie made) (Picture k)) (Some (picture_text shot.at k (ppm_bytes shot.picture))) _ same left r bytes_of there
-    (there ∙ ap (λ (n : ℕ). Some (picture_text n k (ppm_bytes shot.picture))) (sym is.1)) (shot.ran, is.3) has told lost
-picture_told {X} P Q movie made k entry same left (Err NoShotEntry) r bytes_of is has told none lost = subst (λ (x : Result X RunFault). MatchResult x (λ x. P (bytes_of x)) Q) (sym has) (none is)
-picture_told P Q movie made k entry same left (Err (NoShotFrame at len)) r bytes_of is has told none lost =
+-- what is so of each answer
+pub of_ok : {X E : Type 0} (r : Result X E) (P : X → Type 0) → ((x : X) → P x) → IfOk r P
+of_ok (Ok x) P all = all x
+of_ok (Err e) P all = tt
+
+-- a look that draws frame k, and finds `found` of what it shows: what is said of a picture at some number of edits is `text`
+pub drawn_told : {X B : Type 0} (P : List ℕ → Type 0) (Q : RunFault → Type 0) (movie : MovieContent) (made k : ℕ) (look : Request) (found : Result (List ℕ) Halt → List ℕ) (text : ℕ → List ℕ → List ℕ) (entry same : Type 0) (left : ℕ → Type 0)
+    (drawn : Result (ShotOf B) ShotError) (r : Result X RunFault) (bytes_of : X → List ℕ) → look_text (standing_at movie made) look ≡ option_map found (answer_shot movie k) → ((halt : Halt) → found (Err halt) ≡ reply_text (halted_reply made halt))
+    → IfOk drawn (λ shot. text made shot.picture ≡ found (Ok shot.picture)) → IsShotFound (standing_at movie made) entry same left k drawn
+    → MatchResult drawn (λ shot. HasText r bytes_of (Some (text shot.at shot.picture))) (λ error. HasReport r bytes_of error)
+    → ((answer : List ℕ) → IsLooked (standing_at movie made) (look_text (standing_at movie made) look) same left answer → P answer) → (entry → Q NoEntry) → ((answer : List ℕ) → P answer → Q Memory) → MatchResult r (λ x. P (bytes_of x)) Q
+drawn_told P Q movie made k look found text entry same left (Ok shot) r bytes_of looks halts named is has told none lost =
+    let there = looks ∙ ap (option_map found) is.0 in
+    text_told P Q (standing_at movie made) (look_text (standing_at movie made) look) (Some (text shot.at shot.picture)) _ same left r bytes_of there
+    (there ∙ ap (λ (l : List ℕ). Some l) (sym named) ∙ ap (λ (n : ℕ). Some (text n shot.picture)) (sym is.1)) (shot.ran, is.3) has told lost
+drawn_told {X} P Q movie made k look found text entry same left (Err NoShotEntry) r bytes_of looks halts named is has told none lost = subst (λ (x : Result X RunFault). MatchResult x (λ x. P (bytes_of x)) Q) (sym has) (none is)
+drawn_told P Q movie made k look found text entry same left (Err (NoShotFrame at len)) r bytes_of looks halts named is has told none lost =
     text_or_memory P Q (reply_text (NoFrame at len)) r bytes_of has
-    (told (reply_text (NoFrame at len)) (looked_none (standing_at movie made) (look_text (standing_at movie made) (Picture k)) at len same left (ap (option_map (picture_found (standing_at movie made) k)) is.0) is.1 is.2 is.3)) (lost (reply_text (NoFrame at len)))
-picture_told P Q movie made k entry same left (Err NoShotMemory) r bytes_of is has told none lost =
-    let there = ap (option_map (picture_found (standing_at movie made) k)) (shown_frame movie k is.0) in
-    text_or_memory P Q (reply_text OutOfMemory) r bytes_of has (told (reply_text OutOfMemory) (looked_lost (standing_at movie made) (look_text (standing_at movie made) (Picture k)) _ same left there is.1)) (lost (reply_text OutOfMemory))
-picture_told P Q movie made k entry same left (Err (ShotHalted at halt)) r bytes_of is has told none lost =
-    let there = ap (option_map (picture_found (standing_at movie made) k)) is.0 ∙ ap (λ (n : ℕ). Some (reply_text (halted_reply n halt))) (sym is.1) in
+    (told (reply_text (NoFrame at len)) (looked_none (standing_at movie made) (look_text (standing_at movie made) look) at len same left (looks ∙ ap (option_map found) is.0) is.1 is.2 is.3)) (lost (reply_text (NoFrame at len)))
+drawn_told P Q movie made k look found text entry same left (Err NoShotMemory) r bytes_of looks halts named is has told none lost =
+    let there = looks ∙ ap (option_map found) (shown_frame movie k is.0) in
+    text_or_memory P Q (reply_text OutOfMemory) r bytes_of has (told (reply_text OutOfMemory) (looked_lost (standing_at movie made) (look_text (standing_at movie made) look) _ same left there is.1)) (lost (reply_text OutOfMemory))
+drawn_told P Q movie made k look found text entry same left (Err (ShotHalted at halt)) r bytes_of looks halts named is has told none lost =
+    let there = looks ∙ ap (option_map found) is.0 ∙ ap (λ (l : List ℕ). Some l) (halts halt) ∙ ap (λ (n : ℕ). Some (reply_text (halted_reply n halt))) (sym is.1) in
     text_or_memory P Q (reply_text (halted_reply at halt)) r bytes_of has
-    (told (reply_text (halted_reply at halt)) (looked_found (standing_at movie made) (look_text (standing_at movie made) (Picture k)) (reply_text (halted_reply at halt)) (reply_text (halted_reply at halt)) same left there (inl refl) is.2)) (lost (reply_text (halted_reply at halt)))
+    (told (reply_text (halted_reply at halt)) (looked_found (standing_at movie made) (look_text (standing_at movie made) look) (reply_text (halted_reply at halt)) (reply_text (halted_reply at halt)) same left there (inl refl) is.2)) (lost (reply_text (halted_reply at halt)))
 
 -- a shot: for any claim of the reply, and any of the fault
 pub shot_told : {B : Type 0} (P : Reply → Type 0) (Q : RunFault → Type 0) (movie : MovieContent) (made k : ℕ) (entry same same' : Type 0) (left left' : ℕ → Type 0) (drawn : Result (ShotOf B) ShotError) (r : Result Reply RunFault)

@@ -7,7 +7,7 @@ use Rattle.tas_desk.specs.Seats.{SeatContent, HasSeen}
 use Rattle.tas_engines.specs.declared.fault.RunFault.{RunFault}
 use Rattle.tas_engines.specs.declared.fault.RunFault.TheVariants.{NoEntry, Memory, Foreign, Write, Size, Text, NoFrame as OffMovie, Range as OffRange, Halted as Stopped, HaltedFrame as StoppedFrame, Script, Place, Long, Names as NoNames, NoPlace}
 use Rattle.tas_language.specs.declared.request.Request.{Request}
-use Rattle.tas_language.specs.declared.request.Request.TheVariants.{Do, Retouch, Picture, Pictures, Ram, Digest, Lag, Movie, States, Share, History, Begin, Commit, Drop, Quit}
+use Rattle.tas_language.specs.declared.request.Request.TheVariants.{Do, Retouch, Picture, Pictures, Ram, Digest, Lag, Inputs, Movie, States, Share, History, Version, Begin, Commit, Drop, Quit}
 use Rattle.tas_seat.specs.Turns.{standing_of}
 use Rattle.tas_seat.specs.Requests.{StripAnswer, AreShown, strip_answers, IsStrip, KeepsAll}
 use Rattle.tas_seat.specs.Seats.{IsAnsweredAt, IsPictureAt}
@@ -88,10 +88,12 @@ same_or_strip step before now (Picture k) same = inl (same, λ draft. refl)
 same_or_strip step before now (Ram k) same = inl (same, λ draft. refl)
 same_or_strip step before now (Digest k) same = inl (same, λ draft. refl)
 same_or_strip step before now (Lag a b) same = inl (same, λ draft. refl)
+same_or_strip step before now (Inputs a b) same = inl (same, λ draft. refl)
 same_or_strip step before now Movie same = inl (same, λ draft. refl)
 same_or_strip step before now States same = inl (same, λ draft. refl)
 same_or_strip step before now Share same = inl (same, λ draft. refl)
 same_or_strip step before now (History from) same = inl (same, λ draft. refl)
+same_or_strip step before now Version same = inl (same, λ draft. refl)
 same_or_strip step before now Begin same = inl (same, λ draft. refl)
 same_or_strip step before now Commit same = inl (same, λ draft. refl)
 same_or_strip step before now Drop same = inl (same, λ draft. refl)

@@ -5,7 +5,7 @@ use Rattle.tas_desk.specs.Seats.{SeatContent}
 use Rattle.tas_engines.specs.declared.fault.RunFault.{RunFault}
 use Rattle.tas_engines.specs.declared.fault.RunFault.TheVariants.{NoEntry, Memory, Foreign, Write, Size, Text, NoFrame as OffMovie, Range as OffRange, Halted as Stopped, HaltedFrame as StoppedFrame, Script, Place, Long, Names as NoNames, NoPlace}
 use Rattle.tas_language.specs.declared.request.Request.{Request}
-use Rattle.tas_language.specs.declared.request.Request.TheVariants.{Do, Retouch, Picture, Pictures, Ram, Digest, Lag, Movie, States, Share, History, Begin, Commit, Drop, Quit}
+use Rattle.tas_language.specs.declared.request.Request.TheVariants.{Do, Retouch, Picture, Pictures, Ram, Digest, Lag, Inputs, Movie, States, Share, History, Version, Begin, Commit, Drop, Quit}
 use Rattle.tas_seat.specs.declared.conversation.Subject.{Subject}
 use Rattle.tas_seat.specs.declared.conversation.Subject.TheVariants.{Begin as AboutBegin, Commit as AboutCommit, Drop as AboutDrop, Desk as AboutDesk, Movie as AboutMovie, End as AboutEnd}
 use Rattle.tas_seat.specs.Subjects.{subject_of, IsOfTalk, IsAboutTalk, IsOfDesk, IsAboutDesk}
@@ -34,10 +34,12 @@ is_of (Pictures from to) = tt
 is_of (Ram k) = tt
 is_of (Digest k) = tt
 is_of (Lag a b) = tt
+is_of (Inputs a b) = tt
 is_of Movie = tt
 is_of States = tt
 is_of Share = tt
 is_of (History from) = tt
+is_of Version = tt
 is_of Begin = refl
 is_of Commit = refl
 is_of Drop = refl

@@ -18,7 +18,8 @@ use Rattle.tas_engines.specs.declared.fault.ReadFault.TheVariants.{Failed}
 use Rattle.tas_language.specs.declared.request.Request.{Request}
 use Rattle.tas_language.specs.Requests.{IsHeard}
 use Rattle.tas_language.specs.Held.{HoldsLine}
-use Rattle.tas_language.specs.Answers.{unknown_text}
+use Rattle.tas_language.specs.declared.unheard.Unheard.TheVariants.{End}
+use Rattle.tas_language.specs.Unheard.{why_unheard, unknown_text}
 use Rattle.tas_seat.specs.Conversations.{TalkingSeat, talking, IsTalkAnswered}
 use Rattle.tas_seat.specs.Seats.{IsPictureAt}
 use Rattle.tas_seat.specs.Outcomes.{KeepsSeat, KeepsTalk, HasNoTalkAnswer, IsLook}
@@ -78,11 +79,11 @@ one_answered {A} before now x told written old new is same out count =
 unknown_exchange : {A : Type 0} (seat : TalkingSeat A) (said answer : List ℕ) → Exchange A
 unknown_exchange seat said answer = record { said = said; heard = None; answer = answer; edits = []; next = seat }
 
-is_unknown : {A : Type 0} (seat : TalkingSeat A) (said answer : List ℕ) → NoByte 10 said → IsHeard said None → answer ≡ unknown_text → IsExchange seat (unknown_exchange seat said answer)
+is_unknown : {A : Type 0} (seat : TalkingSeat A) (said answer : List ℕ) → NoByte 10 said → IsHeard said None → answer ≡ unknown_text (why_unheard said) → IsExchange seat (unknown_exchange seat said answer)
 unfolding unknown_exchange
 is_unknown seat said answer none heard is = record { whole = none; heard = heard; answered = (is, refl, refl) }
 
-pub unknown_line : {A : Type 0} (seat : TalkingSeat A) (said answer : List ℕ) (told written : ℕ) (old new : Option (List ℕ)) → NoByte 10 said → IsHeard said None → answer ≡ unknown_text → Appends old new answer
+pub unknown_line : {A : Type 0} (seat : TalkingSeat A) (said answer : List ℕ) (told written : ℕ) (old new : Option (List ℕ)) → NoByte 10 said → IsHeard said None → answer ≡ unknown_text (why_unheard said) → Appends old new answer
     → written ≡ min (told + length answer) most_counted → IsLineTurn seat seat said told old new (Ok (Some written))
 unfolding unknown_exchange
 unknown_line seat said answer told written old new none heard is out count =
@@ -119,7 +120,7 @@ cut_line {A} seat now x told old new fault is same cut more =
     (x.answer, carried_out seat now x more is same, (cut.0, cut.1, refl)) in
     (x.edits, subst (Breaks seat now.seat (line x.said ++ more) x.edits told old new) (sym cut.2) answer)
 
-pub unknown_cut : {A : Type 0} (seat : TalkingSeat A) (said answer : List ℕ) (told : ℕ) (old new : Option (List ℕ)) (fault : RunFault) → NoByte 10 said → IsHeard said None → answer ≡ unknown_text → CutsOff told answer old new fault
+pub unknown_cut : {A : Type 0} (seat : TalkingSeat A) (said answer : List ℕ) (told : ℕ) (old new : Option (List ℕ)) (fault : RunFault) → NoByte 10 said → IsHeard said None → answer ≡ unknown_text (why_unheard said) → CutsOff told answer old new fault
     → IsLineTurn seat seat said told old new (Err fault)
 unfolding unknown_exchange
 unknown_cut seat said answer told old new fault none heard is cut =
@@ -284,11 +285,11 @@ line_breaks before now later xs told mid read part first after held long old mid
 pub last_none : (said : List ℕ) (old : Option (List ℕ)) → said ≡ [] → Appends old old (last_answer said)
 last_none said old is = subst (λ (l : List ℕ). Appends old old (last_answer l)) (sym is) (Appends-nil old)
 
-pub last_said : (said : List ℕ) (old new : Option (List ℕ)) → 0 < length said → Appends old new unknown_text → Appends old new (last_answer said)
+pub last_said : (said : List ℕ) (old new : Option (List ℕ)) → 0 < length said → Appends old new (unknown_text End) → Appends old new (last_answer said)
 last_said [] old new some out = absurd (omega (arith, some))
 last_said (b ∷ said) old new some out = out
 
-pub last_cut : (said : List ℕ) (told : ℕ) (old new : Option (List ℕ)) (fault : RunFault) → 0 < length said → CutsOff told unknown_text old new fault → CutsOff told (last_answer said) old new fault
+pub last_cut : (said : List ℕ) (told : ℕ) (old new : Option (List ℕ)) (fault : RunFault) → 0 < length said → CutsOff told (unknown_text End) old new fault → CutsOff told (last_answer said) old new fault
 last_cut [] told old new fault some cut = absurd (omega (arith, some))
 last_cut (b ∷ said) told old new fault some cut = cut
 

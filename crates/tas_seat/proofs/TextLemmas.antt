@@ -1,6 +1,6 @@
 -- An answer's bytes, or memory that was refused for them: for any claim of the answer, and any of the fault.
-use Rattle.std.proofs.Common.{◌≡◌, List, ℕ, Option, Some, Result, Ok, Err, IfOk, ◌⊎◌, inl, inr, refl, sym, subst}
-use Rattle.std.specs.Prelude.{MatchResult}
+use Rattle.std.proofs.Common.{◌≡◌, List, ℕ, Option, Some, None, Result, Ok, Err, IfOk, ◌⊎◌, inl, inr, refl, sym, subst}
+use Rattle.std.specs.Prelude.{MatchResult, IfSome, IfNone, IsSome, OnOk}
 use Rattle.std.proofs.lemmas.Result.{MatchResult-weaker, IfOk-weaker}
 use Rattle.tas_engines.specs.declared.fault.RunFault.{RunFault}
 use Rattle.tas_engines.specs.declared.fault.RunFault.TheVariants.{Memory}
@@ -25,3 +25,19 @@ pub text_made : {X E : Type 0} (found : Option (List ℕ)) (answer : Result X E)
     → MatchResult answer (λ bytes. r ≡ Ok bytes) (λ fault. MatchResult r (λ bytes. bytes_of bytes ≡ reply_text OutOfMemory) (λ fault. fault ≡ Memory)) → IfOk answer (λ bytes. found ≡ Some (bytes_of bytes)) → HasText r bytes_of found
 text_made found answer r bytes_of is told =
     made_or_memory (λ (text : List ℕ). (found ≡ Some text) ⊎ (text ≡ reply_text OutOfMemory)) (λ (fault : RunFault). fault ≡ Memory) answer r bytes_of is (IfOk-weaker answer _ _ (λ bytes e. inl e) told) (inr refl) (λ lost. refl)
+
+-- ---- what is there
+
+-- where nothing is there one of two things isn't so, and both are
+pub present : {X : Type 0} (o : Option X) (P Q : Type 0) → IfNone o (P → Q → ⊥) → P → Q → IsSome o
+present (Some x) P Q none p q = refl
+present None P Q none p q = absurd (none p q)
+
+-- what is said of it is so where it is this
+pub if_some : {X : Type 0} (P : X → Type 0) (o : Option X) (x : X) → o ≡ Some x → IfSome o P → P x
+if_some {X} P o x is said = subst (λ (a : Option X). IfSome a P) is said
+
+-- what is so is so after a good end
+pub on_ok : {X E : Type 0} (r : Result X E) (P : Type 0) → P → OnOk r P
+on_ok (Ok x) P so = so
+on_ok (Err e) P so = tt

@@ -12,7 +12,7 @@ use Rattle.tas_language.specs.declared.reply.Reply.TheVariants.{Full, OutOfMemor
 use Rattle.tas_language.specs.Replies.{reply_text}
 use Rattle.tas_language.specs.declared.draft_reply.DraftReply.TheVariants.{Began, Committed, Moved, Dropped, NoDraft, InDraft}
 use Rattle.tas_language.specs.Drafts.{draft_reply_text}
-use Rattle.tas_language.specs.Answers.{unknown_text}
+use Rattle.tas_language.specs.Unheard.{why_unheard, unknown_text}
 use Rattle.tas_language.specs.declared.request.Request.{Request}
 use Rattle.tas_published.specs.Strokes.{edited_by, refusal_in}
 use Rattle.tas_seat.specs.Turns.{Standing, standing_of, refusal_reply}
@@ -158,7 +158,7 @@ abbrev pub IsTalkAnswered : (A : Type 0) → SeatContent A → Option DraftConte
 IsTalkAnswered A before None now request answer edits = IsAnsweredOutside A before now request answer edits
 IsTalkAnswered A before (Some draft) now request answer edits = IsAnsweredInside A before draft now request answer edits
 
--- a line that isn't understood is answered `unknown`, and changes nothing
-abbrev pub IsLineAnswered : (A : Type 0) → TalkingSeat A → TalkingSeat A → Option Request → List ℕ → List (Edit A) → Type 0
-IsLineAnswered A before now (Some request) answer edits = IsTalkAnswered A before.seat before.draft now request answer edits
-IsLineAnswered A before now None answer edits = (answer ≡ unknown_text) × (edits ≡ []) × (now ≡ before)
+-- a line that isn't understood is answered `unknown` with the reason, and changes nothing
+abbrev pub IsLineAnswered : (A : Type 0) → TalkingSeat A → TalkingSeat A → (said : List ℕ) → Option Request → List ℕ → List (Edit A) → Type 0
+IsLineAnswered A before now said (Some request) answer edits = IsTalkAnswered A before.seat before.draft now request answer edits
+IsLineAnswered A before now said None answer edits = (answer ≡ unknown_text (why_unheard said)) × (edits ≡ []) × (now ≡ before)

@@ -17,7 +17,7 @@ use Rattle.tas_language.specs.declared.command.Command.TheVariants.{Load, Edit a
 use Rattle.tas_language.specs.declared.reply.Reply.TheVariants.{Worked, OutOfMemory}
 use Rattle.tas_language.specs.Replies.{reply_text}
 use Rattle.tas_language.specs.declared.request.Request.{Request}
-use Rattle.tas_language.specs.declared.request.Request.TheVariants.{Do, Picture, Pictures, Movie, States, Share}
+use Rattle.tas_language.specs.declared.request.Request.TheVariants.{Do, Picture, Pictures, Inputs, Movie, States, Share}
 use Rattle.tas_engines.specs.Changes.{edit_of, BringsCopies}
 use Rattle.tas_seat.specs.Turns.{Standing, reply_to_edit, standing_after_edit}
 use Rattle.tas_seat.specs.Edits.{requested_edits, made_between}
@@ -117,12 +117,13 @@ IsDraftEdit draft change answer draft' =
     ⊎ ((answer ≡ reply_text (reply_to_edit false (draft_standing draft) (edit_of change))) × (draft_standing draft' ≡ standing_after_edit false (draft_standing draft) (edit_of change)))
 
 -- a request is answered at a draft. A draft has the cartridge of the movie that it began with, so a line that loads one has no place in
--- it. `movie` and `states` leave its greenzone. `history` and `share` are about the desk, and `begin`, `commit`, `drop` and `quit` about the conversation
+-- it. `inputs`, `movie` and `states` leave its greenzone. `history` and `share` are about the desk, and `begin`, `commit`, `drop` and `quit` about the conversation
 abbrev pub IsDraftAnswered : DraftContent → Request → List ℕ → DraftContent → Type 0
 IsDraftAnswered draft (Do (Load image)) answer draft' = (answer ≡ in_draft_text) × (draft' ≡ draft)
 IsDraftAnswered draft (Pictures from to) answer draft' = IsStrip IsPictureIn draft from to answer draft'
 IsDraftAnswered draft (Do (EditLine change)) answer draft' = IsAnsweredInDraft draft (Do (EditLine change)) answer draft' × IsDraftEdit draft change answer draft'
 IsDraftAnswered draft (Do (Work k)) answer draft' = IsAnsweredInDraft draft (Do (Work k)) answer draft' × IsDraftWork draft k answer draft'
+IsDraftAnswered draft (Inputs a b) answer draft' = IsAnsweredInDraft draft (Inputs a b) answer draft' × (draft'.states ≡ draft.states)
 IsDraftAnswered draft Movie answer draft' = IsAnsweredInDraft draft Movie answer draft' × (draft'.states ≡ draft.states)
 IsDraftAnswered draft States answer draft' = IsAnsweredInDraft draft States answer draft' × (draft'.states ≡ draft.states)
 IsDraftAnswered draft Share answer draft' = ⊥

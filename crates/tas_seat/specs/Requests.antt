@@ -1,8 +1,9 @@
 -- What a line of a conversation is answered at some history and greenzone, and what it leaves of both.
-use Rattle.std.specs.Prelude.{◌≡◌, ℕ, ◌+◌, ◌-◌, ◌<◌, nat_le, ◌&&◌, List, [], ◌∷◌, length, filter, is_some, Bool, true, false, if◌then◌else◌, Option, Some, None, MatchOption, Result, Ok, Err, ◌⊎◌}
+use Rattle.std.specs.Prelude.{◌≡◌, ℕ, ◌+◌, ◌-◌, ◌<◌, nat_le, ◌&&◌, List, [], ◌∷◌, length, take, drop, filter, is_some, Bool, true, false, if◌then◌else◌, Option, Some, None, MatchOption, Result, Ok, Err, ◌⊎◌}
 use Rattle.std.specs.List.{range_with_len, flat_map}
 use Rattle.std.specs.Option.{option_map}
 use Rattle.vcs_cpu.specs.declared.halt.Halt.{Halt}
+use Rattle.vcs_machine.specs.Machine.{profile}
 use Rattle.vcs_tia.specs.Image.{ppm_bytes}
 use Rattle.tas_movie.specs.Content.{MovieContent}
 use Rattle.tas_movie.specs.Text.{text2}
@@ -19,8 +20,8 @@ use Rattle.tas_language.specs.declared.reply.Reply.{Reply}
 use Rattle.tas_language.specs.declared.reply.Reply.TheVariants.{NoFrame, Drawn, Halted, Worked, OutOfMemory}
 use Rattle.tas_language.specs.Replies.{reply_text}
 use Rattle.tas_language.specs.declared.request.Request.{Request}
-use Rattle.tas_language.specs.declared.request.Request.TheVariants.{Do, Retouch, Picture, Pictures, Ram, Digest, Lag, Movie, States, Share, History, Begin, Commit, Drop, Quit}
-use Rattle.tas_language.specs.Answers.{picture_text, ram_text, frame_digest_text, lag_text, movie_text, states_text, share_text}
+use Rattle.tas_language.specs.declared.request.Request.TheVariants.{Do, Retouch, Picture, Pictures, Ram, Digest, Lag, Inputs, Movie, States, Share, History, Version, Begin, Commit, Drop, Quit}
+use Rattle.tas_language.specs.Answers.{picture_text, ram_text, frame_digest_text, lag_text, movie_text, states_text, share_text, version_text, inputs_text}
 use Rattle.tas_seat.specs.Turns.{Standing, halted_reply, IsRetouchTurn, IsTurn}
 
 -- ---- what is made and kept
@@ -107,7 +108,7 @@ look_text stands request = None
 abbrev pub look_places : Request → Option (ℕ × ℕ)
 look_places (Picture k) = Some (k, k + 1)
 look_places (Ram k) = Some (k, k)
-look_places (Digest k) = Some (k, k)
+look_places (Digest k) = Some (k, k + 1)
 look_places (Lag a b) = Some (a, a)
 look_places request = None
 
@@ -123,6 +124,14 @@ IsLooked stands (Some text) same left answer =
 -- the answer to `movie`
 abbrev pub answer_to_movie : Bool → Standing → List ℕ
 answer_to_movie no_memory stands = if no_memory then reply_text OutOfMemory else movie_text stands.made (text2 stands.movie)
+
+-- `inputs A B` finds the runs of the inputs of the frames A to B - 1, where the movie has them
+abbrev pub inputs_found : Standing → ℕ → ℕ → List ℕ
+inputs_found stands a b =
+    if has_frames (length stands.movie.inputs) a b then inputs_text stands.made a b (take (b - a) (drop a stands.movie.inputs)) else reply_text (NoFrame stands.made (length stands.movie.inputs))
+
+abbrev pub answer_to_inputs : Bool → Standing → ℕ → ℕ → List ℕ
+answer_to_inputs no_memory stands a b = if no_memory then reply_text OutOfMemory else inputs_found stands a b
 
 -- the frames of a movie of this length, from 1 to its end, at which a state is kept
 abbrev pub kept_frames : ℕ → List Savestate → List ℕ
@@ -181,10 +190,12 @@ IsAnswerTo state (Pictures from to) answer next = ⊥
 IsAnswerTo state (Ram k) answer next = IsLookAnswer state (Ram k) answer next
 IsAnswerTo state (Digest k) answer next = IsLookAnswer state (Digest k) answer next
 IsAnswerTo state (Lag a b) answer next = IsLookAnswer state (Lag a b) answer next × LagFramesIgnoreInput state.stands.movie
+IsAnswerTo state (Inputs a b) answer next = (no_memory : Bool) × (answer ≡ answer_to_inputs no_memory state.stands a b) × (next.stands ≡ state.stands) × GainsUnless no_memory state next
 IsAnswerTo state Movie answer next = (no_memory : Bool) × (answer ≡ answer_to_movie no_memory state.stands) × (next.stands ≡ state.stands) × GainsUnless no_memory state next
 IsAnswerTo state States answer next = (no_memory : Bool) × (answer ≡ answer_to_states no_memory state.stands next.states) × (next.stands ≡ state.stands) × GainsUnless no_memory state next
 IsAnswerTo state Share answer next = (no_memory : Bool) × IsShareAnswer no_memory state answer next × (next.stands ≡ state.stands)
 IsAnswerTo state (History from) answer next = ⊥
+IsAnswerTo state Version answer next = (answer ≡ version_text profile) × (next.stands ≡ state.stands) × Rests state next
 IsAnswerTo state Begin answer next = ⊥
 IsAnswerTo state Commit answer next = ⊥
 IsAnswerTo state Drop answer next = ⊥

@@ -5,7 +5,7 @@ use Rattle.tas_seat.specs.declared.conversation.Subject.{Subject}
 use Rattle.tas_seat.specs.declared.conversation.Subject.TheVariants as subject
 
 -- `share` and `history` are about the desk, `begin`, `commit`, `drop` and `quit` about the conversation itself, its draft and its end, each about
--- something of its own, and all others about the movie
+-- something of its own, and all others about the movie; `version`, whose answer no movie changes, counts as one of these
 abbrev pub subject_of : Request → Subject
 subject_of Begin = subject.Begin
 subject_of Commit = subject.Commit

@@ -15,7 +15,8 @@ use Rattle.byte_text.specs.Splitting.{NoByte}
 use Rattle.tas_language.specs.declared.request.Request.{Request}
 use Rattle.tas_language.specs.declared.request.Request.TheVariants.{Pictures, Quit}
 use Rattle.tas_language.specs.Requests.{IsHeard}
-use Rattle.tas_language.specs.Answers.{unknown_text}
+use Rattle.tas_language.specs.declared.unheard.Unheard.TheVariants.{End}
+use Rattle.tas_language.specs.Unheard.{unknown_text}
 use Rattle.tas_seat.specs.Drafts.{DraftContent}
 use Rattle.tas_seat.specs.Conversations.{TalkingSeat, talking, IsLineAnswered}
 use Rattle.tas_seat.specs.Outcomes.{IsMiscounted, KeepsSeat, IsLook}
@@ -35,7 +36,7 @@ pub record Exchange (A : Type 0) : Type 0 where
 pub record IsExchange {A : Type 0} (seat : TalkingSeat A) (exchange : Exchange A) : Type 0 where
   pub whole : NoByte 10 exchange.said
   pub heard : IsHeard exchange.said exchange.heard
-  pub answered : IsLineAnswered A seat exchange.next exchange.heard exchange.answer exchange.edits
+  pub answered : IsLineAnswered A seat exchange.next exchange.said exchange.heard exchange.answer exchange.edits
 
 -- each line is answered from where the lines before it left the seat; the last seat is what all of them left
 unfoldable pub AreExchanges : {A : Type 0} → TalkingSeat A → List (Exchange A) → TalkingSeat A → Type 0
@@ -65,7 +66,7 @@ pub record IsQuit (rest : List ℕ) : Type 0 where
 -- the answer to what comes after the last newline: nothing where nothing stands there, and else a line that isn't understood
 abbrev pub last_answer : List ℕ → List ℕ
 last_answer [] = []
-last_answer (byte ∷ bytes) = unknown_text
+last_answer (byte ∷ bytes) = unknown_text End
 
 -- the first line of the rest was carried out, but its answer isn't out whole
 pub record IsCarriedOut {A : Type 0} (seat : TalkingSeat A) (last : SeatContent A) (rest : List ℕ) (edits : List (Edit A)) (answer : List ℕ) : Type 0 where

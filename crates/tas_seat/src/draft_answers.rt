@@ -1,9 +1,10 @@
 //! Answering a request at a draft. Looks are answered as at a seat (`looks.rt`), by what the draft's view has.
 
-ghost use Rattle.std.specs.Prelude.{◌≡◌, Ok, None, MatchOption, MatchResult};
+ghost use Rattle.std.specs.Prelude.{◌≡◌, ◌+◌, Ok, None, OnOk, MatchOption, MatchResult};
+ghost use Rattle.tas_green.specs.Window.{IsOneAway, both};
 ghost use Rattle.tas_engines.specs.declared.fault.RunFault.TheVariants.{Memory};
 ghost use Rattle.tas_language.specs.declared.command.Command.TheVariants.{Edit as EditLine, Length as LengthLine, InputAt as InputLine, Shot as ShotLine, Work as WorkLine};
-ghost use Rattle.tas_language.specs.declared.request.Request.TheVariants.{Do as ScriptLine, Retouch as RetouchLine, Picture as PictureLine, Pictures as PicturesLine, Movie as MovieLine, States as StatesLine};
+ghost use Rattle.tas_language.specs.declared.request.Request.TheVariants.{Do as ScriptLine, Retouch as RetouchLine, Picture as PictureLine, Pictures as PicturesLine, Digest as DigestLine, Inputs as InputsLine, Movie as MovieLine, States as StatesLine};
 ghost use Rattle.tas_seat.specs.Subjects.{IsAboutDesk};
 ghost use Rattle.tas_seat.specs.Drafts.{IsDraft, IsDraftAnswered, IsDraftUnanswered};
 ghost use Rattle.tas_seat.specs.Inside.Drafting.{IsDraftReply, IsDraftShot, IsDraftPicture, IsDraftStateFor, HasNoDraftAnswer};
@@ -11,8 +12,10 @@ ghost use Rattle.tas_seat.specs.Inside.Looking.{IsStateLook};
 
 use crate::Draft;
 use crate::edit_requests::EditRequest;
-use crate::looks::{answer_drawn, answer_reached, frames_for, reply_to_shot};
-use crate::requests::{answer_of_reply, answer_or_refusal, list_states};
+use crate::looks::{answer_digest, answer_drawn, answer_reached, frames_for, reply_to_shot};
+use crate::requests::{
+    answer_of_reply, answer_or_refusal, answer_version, list_inputs, list_states,
+};
 use std::alloc::Allocator;
 use tas_desk::{Reached, Shot, ShotError, StateError};
 use tas_engines::RunFault;
@@ -39,7 +42,9 @@ impl<A: Allocator + Copy> Draft<A> {
 
     /// Draws frame `k` from the draft's greenzone and its window.
     fn picture(&mut self, alloc: A, k: usize) -> Result<Shot<A>, ShotError>
-        ensures { IsDraftPicture self.old self.new k result }
+        ensures picture { IsDraftPicture self.old self.new k result }
+        ensures forward { OnOk result
+            (IsOneAway self.new.movie (k + 1) (both self.new.states self.new.near)) }
     {
         let at = self.edits();
         let len = self.movie().len();
@@ -148,7 +153,17 @@ impl<A: Allocator + Copy> Draft<A> {
         answer_drawn(alloc, frame, drawn)
     }
 
-    /// A `ram`, `digest` or `lag` line.
+    /// A `digest` line.
+    fn answer_frame_digest(&mut self, alloc: A, frame: usize) -> Result<Vec<u8, A>, RunFault>
+        ensures { MatchResult result
+            (λ bytes. IsDraftAnswered self.old (DigestLine frame) bytes.items self.new)
+            (HasNoDraftAnswer self.old self.new (DigestLine frame)) }
+    {
+        let drawn = self.picture(alloc, frame);
+        answer_digest(alloc, frame, drawn, self.view())
+    }
+
+    /// A `ram` or `lag` line.
     fn answer_look(&mut self, alloc: A, look: Request) -> Result<Vec<u8, A>, RunFault>
         requires { IsStateLook look }
         ensures { MatchResult result
@@ -158,6 +173,15 @@ impl<A: Allocator + Copy> Draft<A> {
         let (from, to) = frames_for(look);
         let reached = self.state_for(from, to);
         answer_reached(alloc, self.movie(), look, reached)
+    }
+
+    /// An `inputs` line.
+    fn answer_inputs(&mut self, alloc: A, from: usize, to: usize) -> Result<Vec<u8, A>, RunFault>
+        ensures { MatchResult result
+            (λ bytes. IsDraftAnswered self.old (InputsLine from to) bytes.items self.new)
+            (HasNoDraftAnswer self.old self.new (InputsLine from to)) }
+    {
+        list_inputs(alloc, self.edits(), self.movie(), from, to)
     }
 
     /// A `movie` line.
@@ -243,11 +267,14 @@ impl<A: Allocator + Copy> Draft<A> {
             Request::Retouch(retouch) => Ok(Some(self.answer_retouch(alloc, retouch)?)),
             Request::Picture { frame } => Ok(Some(self.answer_picture(alloc, frame)?)),
             Request::Pictures { from, to } => Ok(Some(self.answer_pictures(alloc, from, to)?)),
-            Request::Ram { .. } | Request::Digest { .. } | Request::Lag { .. } => {
+            Request::Digest { frame } => Ok(Some(self.answer_frame_digest(alloc, frame)?)),
+            Request::Ram { .. } | Request::Lag { .. } => {
                 Ok(Some(self.answer_look(alloc, request)?))
             }
+            Request::Inputs { from, to } => Ok(Some(self.answer_inputs(alloc, from, to)?)),
             Request::Movie => Ok(Some(self.answer_movie(alloc)?)),
             Request::States => Ok(Some(self.answer_states(alloc)?)),
+            Request::Version => Ok(Some(answer_version(alloc)?)),
             Request::Share
             | Request::History { .. }
             | Request::Begin
@@ -270,10 +297,10 @@ impl<A: Allocator + Copy> Draft<A> {
         // movie, its number of edits and its greenzone; a change is made in the draft alone, is counted on, and leaves
         // exactly the states up to the edited place, the kept ones on the new grid; `picture`, `ram`, `digest` and
         // `lag` are played from the nearest state of kept states and window and fill both, as at a seat, and no other
-        // line changes the window; a deletion is never answered `out of memory`; `movie` and `states` leave
-        // all; `work K` keeps exactly what playing the first K frames, or all that there are, leaves, and reports as
-        // many as are gained, and none stale, or is `out of memory` with the kept states as they were; `load` is
-        // answered `in draft` and changes nothing.
+        // line changes the window; a deletion is never answered `out of memory`; `inputs`, `movie` and
+        // `states` leave all; `work K` keeps exactly what playing the first K frames, or all that there are, leaves,
+        // and reports as many as are gained, and none stale, or is `out of memory` with the kept states as they were;
+        // `load` is answered `in draft` and changes nothing.
         // Refused: change_in_a_draft_is_made_twice, window_of_a_draft_is_lost_before_a_picture,
         // deletion_in_a_draft_is_out_of_memory*, work_in_a_draft_reports_stale_states*, work_in_a_draft_fills_half.
         // The pictures of a strip are answered one after the other; `share`, `history` and `quit` aren't about a

@@ -1,30 +1,30 @@
-//! Looks, wherever they are answered: the lines `shot`, `picture`, `ram`, `digest` and `lag` of a conversation. A seat brings its view up to what is
+//! Looks, wherever they are answered: the lines `shot`, `picture`, `digest`, `ram` and `lag` of a conversation. A seat brings its view up to what is
 //! published, and a draft has its own; what a look is answered follows from what it found there.
 
-ghost use Rattle.std.specs.Prelude.{◌≡◌, ◌<◌, ◌≤◌, length, Some, Ok, IfOk, MatchResult};
+ghost use Rattle.std.specs.Prelude.{◌≡◌, ◌+◌, ◌<◌, ◌≤◌, length, Some, Ok, IfOk, OnOk, MatchResult};
 ghost use Rattle.vcs_tia.specs.Image.{ppm_bytes};
 ghost use Rattle.vcs_tia.specs.Picture.{lit_count};
 ghost use Rattle.tas_green.specs.Run.{state_after};
+ghost use Rattle.tas_green.specs.View.{both_of};
+ghost use Rattle.tas_green.specs.Window.{IsOneAway};
 ghost use Rattle.tas_published.specs.Errors.{shot_error};
-ghost use Rattle.tas_language.specs.Answers.{picture_text};
+ghost use Rattle.tas_language.specs.Answers.{frame_digest_text, picture_text};
 ghost use Rattle.tas_language.specs.declared.reply.Reply.TheVariants.{Drawn as DrawnReply};
-ghost use Rattle.tas_language.specs.declared.request.Request.TheVariants.{Digest as DigestLine, Lag as LagLine};
+ghost use Rattle.tas_language.specs.declared.request.Request.TheVariants.{Lag as LagLine};
 ghost use Rattle.tas_seat.specs.Turns.{standing_at};
 ghost use Rattle.tas_seat.specs.Requests.{look_text};
 ghost use Rattle.tas_seat.specs.Outcomes.{unshown_as};
 ghost use Rattle.tas_seat.specs.Inside.Looking.{CanLook, AsksForState, IsStateLook, HasText, HasReport};
 
-use crate::commands::{halted_reply, unshown_as};
+use crate::commands::unshown_as;
 use crate::requests::{answer_or_refusal, unshown_answer};
 use std::alloc::{AllocError, Allocator};
 use tas_desk::{Reached, Shot, ShotError, StateError};
 use tas_engines::{RunFault, lag_between};
-use tas_language::{
-    Reply, Request, digest_answer, lag_answer, picture_answer, ram_answer, reply_line,
-};
+use tas_green::View;
+use tas_language::{Reply, Request, digest_answer, lag_answer, picture_answer, ram_answer};
 use tas_movie::Movie;
-use vcs_machine::{Meter, State, play};
-use vcs_tia::Picture;
+use vcs_machine::State;
 
 /// The reply to a `shot` line, by what was drawn.
 pub fn reply_to_shot<A: Allocator>(drawn: Result<Shot<A>, ShotError>) -> Result<Reply, RunFault>
@@ -64,11 +64,27 @@ pub fn answer_drawn<A: Allocator + Copy>(
     answer_or_refusal(alloc, bytes)
 }
 
-/// The frames that `digest` asks for: one. After the greatest number comes 0: then it is past the last one, and no movie has such frames.
-fn one_frame(frame: usize) -> (usize, usize)
-    ensures { AsksForState (DigestLine frame) result.0 result.1 }
+/// A `digest` line, answered by what was drawn, and by the view that has drawn it: the state after the frame is at hand there.
+pub fn answer_digest<A: Allocator + Copy, B: Allocator>(
+    alloc: A,
+    frame: usize,
+    drawn: Result<Shot<A>, ShotError>,
+    view: &View<B>,
+) -> Result<Vec<u8, A>, RunFault>
+    requires within { OnOk drawn (frame < length view.now.movie.inputs) }
+    requires forward { OnOk drawn (IsOneAway view.now.movie (frame + 1) (both_of view.now)) }
+    ensures { MatchResult drawn
+        (λ shot. HasText result (λ bytes. bytes.items) (Some (frame_digest_text shot.at frame
+        (state_after view.now.movie (frame + 1)).riot.ram (ppm_bytes shot.picture))))
+        (λ error. HasReport result (λ bytes. bytes.items) error) }
 {
-    (frame, frame.wrapping_add(1))
+    let shot = match drawn {
+        Ok(shot) => shot,
+        Err(unshown) => return unshown_answer(alloc, unshown),
+    };
+    let after = view.after_frame(frame).unwrap();
+    let bytes = digest_answer(alloc, shot.at, frame, &after.ram(), &shot.picture);
+    answer_or_refusal(alloc, bytes)
 }
 
 /// The frames that a look at a state asks for, from the one which begins in this state up to the one before another.
@@ -78,38 +94,9 @@ pub fn frames_for(look: Request) -> (usize, usize)
 {
     match look {
         Request::Ram { frames } => (frames, frames),
-        Request::Digest { frame } => one_frame(frame),
         Request::Lag { from, to } => (from, to),
         _ => (0, 0),
     }
-}
-
-/// Plays a frame from the state in which it begins, and answers `digest` with its digests, or with its halt.
-fn digest_frame<A: Allocator + Copy, B: Allocator>(
-    alloc: A,
-    at: u64,
-    movie: &Movie<B>,
-    frame: usize,
-    begin: State,
-) -> Result<Vec<u8, A>, AllocError>
-    requires within { frame < length movie.now.inputs }
-    requires begin { begin ≡ state_after movie.now frame }
-    ensures { IfOk result
-        (λ bytes. look_text (standing_at movie.now at) (DigestLine frame) ≡ Some bytes.items) }
-{
-    let mut picture = Picture::blank(alloc)?;
-    let mut state = begin;
-    let inputs = movie.inputs();
-    if let Err(halt) = play(
-        movie.cart(),
-        &mut state,
-        inputs[frame],
-        &mut picture,
-        &mut Meter::new(),
-    ) {
-        return reply_line(alloc, halted_reply(at, halt));
-    }
-    digest_answer(alloc, at, frame, &state.ram(), &picture)
 }
 
 /// Plays some frames from the state in which the first one begins, and answers `lag` with the lag frames among them.
@@ -144,7 +131,6 @@ fn find<A: Allocator + Copy, B: Allocator>(
 {
     match look {
         Request::Ram { frames } => ram_answer(alloc, at, frames, &begin.ram()),
-        Request::Digest { frame } => digest_frame(alloc, at, movie, frame, begin),
         Request::Lag { from, to } => find_lag(alloc, at, movie, from, to, begin),
         _ => Ok(Vec::new(alloc)),
     }

@@ -12,7 +12,7 @@
 ghost use Rattle.std.specs.Prelude.{◌≡◌, ◌+◌, ◌++◌, ℕ, List, length, min, IfOk, IfErr, OnOk, MatchResult};
 ghost use Rattle.std.specs.Io.KnownBytes.{Appends};
 ghost use Rattle.byte_text.specs.Splitting.{NoByte};
-ghost use Rattle.tas_language.specs.Answers.{unknown_text};
+ghost use Rattle.tas_language.specs.Unheard.{unknown_text};
 ghost use Rattle.tas_language.specs.Held.{HoldsLine};
 ghost use Rattle.tas_seat.specs.Conversations.{talking};
 ghost use Rattle.tas_seat.specs.Talk.{last_answer, most_counted, IsTalk};
@@ -26,7 +26,7 @@ use std::io::{Read, Write};
 use std::sync::Wait;
 use tas_desk::{CloseOnDrop, Desk, Name, Seat};
 use tas_engines::{ReadFault, RunFault, ToolFault};
-use tas_language::Line;
+use tas_language::{Line, Unheard, unknown_line};
 
 /// How many bytes one read asks for.
 const CHUNK: usize = 4096;
@@ -50,14 +50,14 @@ fn hand_out<W: Write>(output: &mut W, bytes: &[u8], before: usize) -> Result<usi
 }
 
 /// Answers a line that isn't understood.
-fn answer_unknown<W: Write>(output: &mut W, before: usize) -> Result<usize, RunFault>
+fn answer_unknown<W: Write>(output: &mut W, why: Unheard, before: usize) -> Result<usize, RunFault>
     ensures out { OnOk result
-        (Appends (W.contents output.old) (W.contents output.new) unknown_text) }
-    ensures count { IfOk result (λ n. n ≡ min (before + length unknown_text) most_counted) }
+        (Appends (W.contents output.old) (W.contents output.new) (unknown_text why)) }
+    ensures count { IfOk result (λ n. n ≡ min (before + length (unknown_text why)) most_counted) }
     ensures fault { IfErr result
-        (CutsOff before unknown_text (W.contents output.old) (W.contents output.new)) }
+        (CutsOff before (unknown_text why) (W.contents output.old) (W.contents output.new)) }
 {
-    hand_out(output, b"unknown\n", before)
+    hand_out(output, unknown_line(why), before)
 }
 
 /// Answers the line that is held, and returns how many bytes of answers have gone out then; `None` where it asks for the
@@ -78,7 +78,7 @@ fn answer_line<N: Name, C: CloseOnDrop, A: Allocator + Copy, R: Wait, W: Write>(
         (W.contents output.old) (W.contents output.new) result }
 {
     let Some(request) = line.request() else {
-        return Ok(Some(answer_unknown(output, written)?));
+        return Ok(Some(answer_unknown(output, line.unheard(), written)?));
     };
     let Some(bytes) = answer_talk(rt, alloc, desk, seat, draft, request)? else {
         return Ok(None);
@@ -134,7 +134,7 @@ fn answer_last<A: Allocator, W: Write>(
     if line.is_empty() {
         return Ok(());
     }
-    answer_unknown(output, written)?;
+    answer_unknown(output, Unheard::End, written)?;
     Ok(())
 }
 
@@ -153,9 +153,9 @@ pub fn converse<N: Name, C: CloseOnDrop, A: Allocator + Copy, T: Wait, R: Read, 
     output: &mut W,
 ) -> Result<(), ToolFault>
     // Refused: quit_ends_with_no_entry.
-    // A conversation answers each line as the seat does, and `unknown` where it isn't understood, which changes
-    // nothing.
-    // Refused: unknown_is_answered_nothing, part_of_a_line_is_dropped*.
+    // A conversation answers each line as the seat does, and `unknown` with the reason where it isn't understood, which
+    // changes nothing.
+    // Refused: unknown_is_answered_nothing, last_line_is_reported_as_without_a_word, part_of_a_line_is_dropped*.
     // What left the reader is the lines that were answered and the rest before which it ended: a `quit` line, or no
     // whole line where no more bytes come or a read failed; after a failed write one that begins with the line whose
     // answer was cut off, or no whole line; after `NoEntry` one that begins with a line that looks; after `Memory` any.

@@ -39,7 +39,7 @@ fn say<R: Abort>(rt: &R, alloc: Global, draft: &mut Draft, said: Said) {
     check_that(rt, said, bytes.as_slice() == said.1.as_bytes());
 }
 
-static SAID: [Said; 17] = [
+static SAID: [Said; 20] = [
     ("len", "len 0 0\n"),
     ("insert 0 200 ..... ..... .....", "edit 1 len 200\n"),
     ("states", "states 1 0\n"),
@@ -54,7 +54,16 @@ static SAID: [Said; 17] = [
     ("input 128", "input 3 R.... ..... .....\n"),
     ("delete 201 1", "place 3 len 201\n"),
     ("repeat 0 201 1304", "long 3 len 201\n"),
+    (
+        "inputs 99 102",
+        "inputs 3 99 102 71\n99 1 ..... ..... .....\n100 1 ....F ..... .....\n101 1 ..... ..... .....\n",
+    ),
+    ("inputs 199 202", "no frame 3 len 201\n"),
     ("ram 202", "no frame 3 len 201\n"),
+    (
+        "version",
+        "version 0.3.0 profile 2 format 1 bytes picture lag inputs movie history\n",
+    ),
     ("shot 201", "no frame 3 len 201\n"),
     (
         "pictures 201 203",
@@ -80,7 +89,7 @@ static STEPS: [(&str, usize, u64); 6] = [
     ("picture 100", 102, 1),
     ("picture 101", 103, 1),
     ("ram 103", 104, 1),
-    ("digest 104", 105, 1),
+    ("digest 104", 105, 0),
     ("lag 105 106", 106, 1),
     ("replace 90 1 R.... ..... .....", 93, 3),
 ];

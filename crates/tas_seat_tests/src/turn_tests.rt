@@ -29,8 +29,13 @@ fn check_answer<N: Name, W: CloseOnDrop, R: Wait + Abort>(
 
 /// Both seats make the playfield's movie, and one presses a button in a frame that the other has put in. Each edit cuts the other's
 /// greenzone.
-static MADE: [Turn; 14] = [
+static MADE: [Turn; 15] = [
     (0, "len", "len 0 0\n"),
+    (
+        1,
+        "version",
+        "version 0.3.0 profile 2 format 1 bytes picture lag inputs movie history\n",
+    ),
     LOADED,
     (1, "insert 0 200 ..... ..... .....", "edit 2 len 200\n"),
     (0, "len", "len 2 200\n"),
@@ -66,6 +71,31 @@ static SHARED: [Turn; 12] = [
     (0, "work 201", "work jobs 1 kept 1 stale 0\n"),
     (0, "states", "states 3 3 64 128 192\n"),
 ];
+
+static INPUTS: [Turn; 8] = [
+    LOADED,
+    (0, "insert 0 200 ..... ..... .....", "edit 2 len 200\n"),
+    (0, "work 200", "work jobs 1 kept 3 stale 0\n"),
+    (
+        1,
+        "inputs 3 60",
+        "inputs 2 3 60 23\n3 57 ..... ..... .....\n",
+    ),
+    (1, "shot 191", "shot 2 191 ran 64 lit 1680\n"),
+    (0, "press 4 2 R.... ..... .....", "edit 3 len 200\n"),
+    (
+        1,
+        "inputs 3 7",
+        "inputs 3 3 7 66\n3 1 ..... ..... .....\n4 2 R.... ..... .....\n6 1 ..... ..... .....\n",
+    ),
+    (1, "inputs 199 201", "no frame 3 len 200\n"),
+];
+
+/// The inputs are those of the movie that both have made, and gain the states of the desk as sharing does.
+#[test]
+fn inputs_are_reported_by_runs(rt: HostRuntime) {
+    play(&rt, rt.alloc(), &INPUTS);
+}
 
 static LOOKED_AT: [Turn; 5] = [
     LOADED,

@@ -37,7 +37,7 @@ use Rattle.tas_language.specs.Replies.{reply_text}
 use Rattle.tas_language.specs.History.{entry_text}
 use Rattle.tas_language.specs.Answers.{history_text}
 use Rattle.tas_language.specs.declared.request.Request.{Request}
-use Rattle.tas_language.specs.declared.request.Request.TheVariants.{Do, Retouch, Picture, Pictures, Ram, Digest, Lag, Movie, States, Share, History, Begin, Commit, Drop, Quit}
+use Rattle.tas_language.specs.declared.request.Request.TheVariants.{Do, Retouch, Picture, Pictures, Ram, Digest, Lag, Inputs, Movie, States, Share, History, Version, Begin, Commit, Drop, Quit}
 use Rattle.tas_seat.specs.HistoryText.{entry_lines, history_reply_text}
 use Rattle.tas_seat.specs.Edits.{edits_by_command, requested_edits, made_between}
 use Rattle.tas_seat.specs.Requests.{TalkState, IsPictureAnswer, StripAnswer, AreShown, strip_answers, IsAnswerTo as IsAnswerAt}
@@ -294,10 +294,12 @@ same_requested A movie (Pictures from to) = (refl, λ is. refl)
 same_requested A movie (Ram k) = (refl, λ is. refl)
 same_requested A movie (Digest k) = (refl, λ is. refl)
 same_requested A movie (Lag a b) = (refl, λ is. refl)
+same_requested A movie (Inputs a b) = (refl, λ is. refl)
 same_requested A movie Movie = (refl, λ is. refl)
 same_requested A movie States = (refl, λ is. refl)
 same_requested A movie Share = (refl, λ is. refl)
 same_requested A movie (History from) = (refl, λ is. refl)
+same_requested A movie Version = (refl, λ is. refl)
 same_requested A movie Begin = (refl, λ is. refl)
 same_requested A movie Commit = (refl, λ is. refl)
 same_requested A movie Drop = (refl, λ is. refl)
@@ -418,9 +420,11 @@ own_request A before now (Picture k) answer edits is seen own = (own_answer A be
 own_request A before now (Ram k) answer edits is seen own = (own_answer A before now (Ram k) answer edits is seen own, grown_at A before now (Ram k) answer edits is seen own)
 own_request A before now (Digest k) answer edits is seen own = (own_answer A before now (Digest k) answer edits is seen own, grown_at A before now (Digest k) answer edits is seen own)
 own_request A before now (Lag a b) answer edits is seen own = (own_answer A before now (Lag a b) answer edits is seen own, grown_at A before now (Lag a b) answer edits is seen own)
+own_request A before now (Inputs a b) answer edits is seen own = (own_answer A before now (Inputs a b) answer edits is seen own, grown_at A before now (Inputs a b) answer edits is seen own)
 own_request A before now Movie answer edits is seen own = (own_answer A before now Movie answer edits is seen own, grown_at A before now Movie answer edits is seen own)
 own_request A before now States answer edits is seen own = (own_answer A before now States answer edits is seen own, grown_at A before now States answer edits is seen own)
 own_request A before now Share answer edits is seen own = (own_answer A before now Share answer edits is seen own, grown_at A before now Share answer edits is seen own)
+own_request A before now Version answer edits is seen own = (own_answer A before now Version answer edits is seen own, grown_at A before now Version answer edits is seen own)
 own_request A before now Begin answer edits is seen own = (own_answer A before now Begin answer edits is seen own, grown_at A before now Begin answer edits is seen own)
 own_request A before now Commit answer edits is seen own = (own_answer A before now Commit answer edits is seen own, grown_at A before now Commit answer edits is seen own)
 own_request A before now Drop answer edits is seen own = (own_answer A before now Drop answer edits is seen own, grown_at A before now Drop answer edits is seen own)
@@ -567,10 +571,10 @@ own_talk_line : (A : Type 0) (before : SeatContent A) (draft : Option DraftConte
 own_talk_line A before None now request answer edits is seen own = own_outside (subject_of request) A before now request answer edits refl is seen own
 own_talk_line A before (Some draft) now request answer edits is seen own = own_inside (subject_of request) A before draft now request answer edits refl is seen own
 
-own_line : (A : Type 0) (before now : TalkingSeat A) (heard : Option Request) (answer : List ℕ) (edits : List (Edit A)) → IsLineAnswered A before now heard answer edits → before.seat.made ≤ length before.seat.front → SeesOwn now.seat
-    → IsLineAnswer (own_place before) heard answer (own_place now)
-own_line A before now (Some request) answer edits is seen own = own_talk_line A before.seat before.draft now request answer edits is seen own
-own_line A before now None answer edits (told, none, same) seen own = (told, ap (λ (s : TalkingSeat A). own_place s) same)
+own_line : (A : Type 0) (before now : TalkingSeat A) (said : List ℕ) (heard : Option Request) (answer : List ℕ) (edits : List (Edit A)) → IsLineAnswered A before now said heard answer edits → before.seat.made ≤ length before.seat.front → SeesOwn now.seat
+    → IsLineAnswer (own_place before) said heard answer (own_place now)
+own_line A before now said (Some request) answer edits is seen own = own_talk_line A before.seat before.draft now request answer edits is seen own
+own_line A before now said None answer edits (told, none, same) seen own = (told, ap (λ (s : TalkingSeat A). own_place s) same)
 
 -- ---- all lines
 
@@ -578,7 +582,7 @@ abbrev pub own_exchange : {A : Type 0} → SeatExchange A → Exchange
 own_exchange x = record { said = x.said; heard = x.heard; answer = x.answer; next = own_place x.next }
 
 pub own_is : {A : Type 0} (seat : TalkingSeat A) (x : SeatExchange A) → IsSeatExchange seat x → seat.seat.made ≤ length seat.seat.front → SeesOwn x.next.seat → IsExchange (own_place seat) (own_exchange x)
-own_is {A} seat x is seen own = record { whole = is.whole; heard = is.heard; answered = own_line A seat x.next x.heard x.answer x.edits is.answered seen own }
+own_is {A} seat x is seen own = record { whole = is.whole; heard = is.heard; answered = own_line A seat x.next x.said x.heard x.answer x.edits is.answered seen own }
 
 unfoldable pub own_all : {A : Type 0} → List (SeatExchange A) → List Exchange
 own_all [] = []

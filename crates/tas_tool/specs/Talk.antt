@@ -22,7 +22,7 @@ use Rattle.tas_language.specs.Replies.{reply_text}
 use Rattle.tas_language.specs.declared.request.Request.{Request}
 use Rattle.tas_language.specs.declared.request.Request.TheVariants.{Pictures, History}
 use Rattle.tas_language.specs.Requests.{IsHeard}
-use Rattle.tas_language.specs.Answers.{unknown_text}
+use Rattle.tas_language.specs.Unheard.{why_unheard, unknown_text}
 use Rattle.tas_language.specs.declared.draft_reply.DraftReply.TheVariants.{Dropped, NoDraft, InDraft}
 use Rattle.tas_language.specs.Drafts.{draft_reply_text}
 use Rattle.tas_seat.specs.Turns.{Standing}
@@ -115,10 +115,10 @@ abbrev pub IsDraftedAnswer : TalkState → List EditContent → Option DraftCont
 IsDraftedAnswer state edits None request answer next = IsOutsideAnswer state edits request answer next
 IsDraftedAnswer state edits (Some draft) request answer next = IsInsideAnswer state edits draft request answer next
 
--- a line that isn't understood is answered `unknown`, and changes nothing
-abbrev pub IsLineAnswer : DraftedState → Option Request → List ℕ → DraftedState → Type 0
-IsLineAnswer state (Some request) answer next = IsDraftedAnswer state.state state.edits state.draft request answer next
-IsLineAnswer state None answer next = (answer ≡ unknown_text) × (next ≡ state)
+-- a line that isn't understood is answered `unknown` with the reason, and changes nothing
+abbrev pub IsLineAnswer : DraftedState → (said : List ℕ) → Option Request → List ℕ → DraftedState → Type 0
+IsLineAnswer state said (Some request) answer next = IsDraftedAnswer state.state state.edits state.draft request answer next
+IsLineAnswer state said None answer next = (answer ≡ unknown_text (why_unheard said)) × (next ≡ state)
 
 -- ---- lines, one after the other
 
@@ -133,7 +133,7 @@ pub record Exchange : Type 0 where
 pub record IsExchange (state : DraftedState) (exchange : Exchange) : Type 0 where
   pub whole : NoByte 10 exchange.said
   pub heard : IsHeard exchange.said exchange.heard
-  pub answered : IsLineAnswer state exchange.heard exchange.answer exchange.next
+  pub answered : IsLineAnswer state exchange.said exchange.heard exchange.answer exchange.next
 
 -- each line is answered at what the lines before it made and left; the last state is what all of them did
 unfoldable pub AreExchanges : DraftedState → List Exchange → DraftedState → Type 0

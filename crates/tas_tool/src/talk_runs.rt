@@ -162,7 +162,7 @@ pub(crate) fn read_blank_movie<A: Allocator + Copy, C: Read>(
 /// Reads lines and answers each of them, from a blank cartridge with no inputs on: an answer is written whole before more
 /// is read. The lines are those of a [`Request`](tas_language::Request): a script's, edits that depend on the movie's frames, looks,
 /// `share`, `history`, those about drafts, and `quit`. Another line, or one of more than [`MAX_LINE`](tas_language::MAX_LINE) bytes, is
-/// answered `unknown` and changes nothing, and so is what comes after the last newline. It runs on a desk of one seat, and ends with
+/// answered `unknown` and why, and changes nothing, and so is what comes after the last newline. It runs on a desk of one seat, and ends with
 /// `quit` or with the input. The movie that its edits have made comes back, whatever ended it; a draft that is open is lost.
 ///
 /// Faults: `Read` where a read failed, with each whole line answered; `Write`, with the first bytes of the answers written, and how

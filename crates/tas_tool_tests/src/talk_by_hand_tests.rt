@@ -11,7 +11,7 @@ const TEN: &[u8] = b"load 000=A910850DA91E85084C08F0 FFC=00F0\ninsert 0 10 .....
 const FOURTH: &[u8] = b"load 000=E680A5802903D003AD8002A9028500A90085004C00F0 FFC=00F0\n";
 
 /// Conversations, and their names.
-static TALKS: [(&str, &[Turn<'static>]); 21] = [
+static TALKS: [(&str, &[Turn<'static>]); 23] = [
     // Each line of a script, and each refusal that fits in a few lines.
     (
         "lines of a script",
@@ -60,11 +60,11 @@ static TALKS: [(&str, &[Turn<'static>]); 21] = [
             ),
             (
                 b"begin\ninsert 1 1 ..... ..... .....\nrepeat 0 0 1\ninput 0\nwhat\ndrop\nlen\n",
-                b"begin 1 0\nplace 1 len 0\nedit 2 len 0\nno frame 2 len 0\nunknown\ndropped\nlen 1 0\n",
+                b"begin 1 0\nplace 1 len 0\nedit 2 len 0\nno frame 2 len 0\nunknown word\ndropped\nlen 1 0\n",
             ),
             (
                 b"begin 0\nBegin\ncommit \ndrop 1\n begin\ndrops\n",
-                b"unknown\nunknown\nunknown\nunknown\nunknown\nunknown\n",
+                b"unknown rest\nunknown word\nunknown rest\nunknown rest\nunknown word\nunknown word\n",
             ),
         ],
     ),
@@ -114,7 +114,7 @@ static TALKS: [(&str, &[Turn<'static>]); 21] = [
     ),
     (
         "a draft without a newline",
-        &[(b"begin\ncommit", b"begin 0 0\nunknown\n")],
+        &[(b"begin\ncommit", b"begin 0 0\nunknown end\n")],
     ),
     (
         "a draft at the end",
@@ -263,25 +263,62 @@ static TALKS: [(&str, &[Turn<'static>]); 21] = [
             ),
         ],
     ),
+    // Outside a draft and in one, `version` changes nothing.
+    (
+        "version",
+        &[
+            (
+                b"version\nbegin\nversion\nlen\ndrop\n",
+                b"version 0.3.0 profile 2 format 1 bytes picture lag inputs movie history\nbegin 0 0\nversion 0.3.0 profile 2 format 1 bytes picture lag inputs movie history\nlen 0 0\ndropped\n",
+            ),
+            (
+                b"version 1\nVersion\nversion \n",
+                b"unknown rest\nunknown word\nunknown rest\n",
+            ),
+        ],
+    ),
+    // The runs of the frames that are asked for, cut where these begin and end; an edit changes them, also in a draft.
+    (
+        "inputs",
+        &[
+            (TEN, b"edit 1 len 0\nedit 2 len 10\n"),
+            (
+                b"press 4 3 R.... ..... .....\ninputs 0 10\ninputs 5 8\ninputs 5 6\n",
+                b"edit 3 len 10\ninputs 3 0 10 66\n0 4 ..... ..... .....\n4 3 R.... ..... .....\n7 3 ..... ..... .....\ninputs 3 5 8 44\n5 2 R.... ..... .....\n7 1 ..... ..... .....\ninputs 3 5 6 22\n5 1 R.... ..... .....\n",
+            ),
+            (
+                b"begin\ndelete 0 4\ninputs 0 2\ninputs 5 7\ndrop\ninputs 0 2\n",
+                b"begin 3 10\nedit 4 len 6\ninputs 4 0 2 22\n0 2 R.... ..... .....\nno frame 4 len 6\ndropped\ninputs 3 0 2 22\n0 2 ..... ..... .....\n",
+            ),
+            (
+                b"inputs 0 11\ninputs 10 11\ninputs 9999998 9999999\n",
+                b"no frame 3 len 10\nno frame 3 len 10\nno frame 3 len 10\n",
+            ),
+            (
+                b"inputs\ninputs 0\ninputs 0 0\ninputs 2 1\ninputs 0 1025\ninputs 0 01\ninputs 0 1 2\nlen\n",
+                b"unknown rest\nunknown rest\nunknown rest\nunknown rest\nunknown rest\nunknown rest\nunknown rest\nlen 3 10\n",
+            ),
+        ],
+    ),
     // Lines that are nearly these.
     (
         "other lines are unknown",
         &[
             (
                 b"press 0 1\npress 0 1 ..... .....\npress 0 01 ..... ..... .....\nrelease 0 1 ..... ..... .... \nPress 0 1 ..... ..... .....\n",
-                b"unknown\nunknown\nunknown\nunknown\nunknown\n",
+                b"unknown rest\nunknown rest\nunknown rest\nunknown rest\nunknown word\n",
             ),
             (
                 b"repeat 0 1\nrepeat 0 1 10000000\nrepeat 0 1 2 3\ncopy 0 1\ncopy other 0 1 0\ncopies 0 1 0\n",
-                b"unknown\nunknown\nunknown\nunknown\nunknown\nunknown\n",
+                b"unknown rest\nunknown rest\nunknown rest\nunknown rest\nunknown rest\nunknown word\n",
             ),
             (
                 b"lag\nlag 0\nlag 0 \nlag 00 0\nlag 0 0 0\nlag 0 10000000\nlags 0 0\nlen\n",
-                b"unknown\nunknown\nunknown\nunknown\nunknown\nunknown\nunknown\nlen 0 0\n",
+                b"unknown rest\nunknown rest\nunknown rest\nunknown rest\nunknown rest\nunknown rest\nunknown word\nlen 0 0\n",
             ),
         ],
     ),
-    // Digests of the counting program.
+    // Digests of the counting program. What is kept is what a shot of the frame keeps: `digest 63` the state after 64 frames.
     (
         "counting",
         &[
@@ -289,6 +326,14 @@ static TALKS: [(&str, &[Turn<'static>]); 21] = [
             (
                 b"digest 0\n",
                 b"digest 2 0 ram ae1ced82a004520774321ef0f382a78838a5e785e4e85e06ca810b017a5303b4 picture 589dd6620bac6e3bae3f75930faca7ea0a59bbd5c610a3536e12d4ba0ff71123\n",
+            ),
+            (
+                b"digest 63\n",
+                b"digest 2 63 ram b8e4291c186e56862234d911a18c700af186aa8235799b3090b34c2aa1c5e881 picture 589dd6620bac6e3bae3f75930faca7ea0a59bbd5c610a3536e12d4ba0ff71123\n",
+            ),
+            (
+                b"states\nshot 64\n",
+                b"states 2 1 64\nshot 2 64 ran 1 lit 0\n",
             ),
             (
                 b"digest 130\n",

@@ -97,6 +97,6 @@ fn other_lines_are_unknown(rt: HostRuntime) {
         &rt,
         rt.alloc(),
         b"ram\nram \nram 01\nram 1 \nram 10000000\nRAM 0\ndigest\ndigest 0 1\ndigest +1\nrams 0\n",
-        b"unknown\nunknown\nunknown\nunknown\nunknown\nunknown\nunknown\nunknown\nunknown\nunknown\n",
+        b"unknown rest\nunknown rest\nunknown rest\nunknown rest\nunknown rest\nunknown word\nunknown rest\nunknown rest\nunknown rest\nunknown word\n",
     );
 }

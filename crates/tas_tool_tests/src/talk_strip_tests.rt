@@ -130,7 +130,8 @@ fn other_strips_are_unknown(rt: HostRuntime) {
             b"pictures\npictures 1\npictures 1 1\npictures 2 1\npictures 0 1025\npictures 01 2\npictures 1  2\npicturess 1 2\n",
         ],
     );
-    let wanted = b"unknown\nunknown\nunknown\nunknown\nunknown\nunknown\nunknown\nunknown\n";
+    let wanted =
+        b"unknown rest\nunknown rest\nunknown rest\nunknown rest\nunknown rest\nunknown rest\nunknown rest\nunknown word\n";
     check_answer(
         &rt,
         "unknown",

@@ -121,7 +121,7 @@ fn small_cartridges_are_talked_of(rt: HostRuntime) {
             picture.as_slice(),
             b"movie 2 104\n",
             text.as_bytes(),
-            b"unknown\nunknown\nstates 2 3 64 128 192\n",
+            b"unknown rest\nunknown rest\nstates 2 3 64 128 192\n",
         ],
     );
 }
@@ -145,21 +145,41 @@ fn edits_are_bounded(rt: HostRuntime) {
 static ENDS: [(&[u8], &[u8]); 5] = [
     (b"", b""),
     (b"quit\n", b""),
-    (b"quit", b"unknown\n"),
-    (b"\n", b"unknown\n"),
+    (b"quit", b"unknown end\n"),
+    (b"\n", b"unknown word\n"),
     (b"quit\nlen\nlen", b""),
 ];
 
-/// Lines that aren't understood are answered `unknown`, and so is what stands after the last newline, whatever it says.
+/// The answers to the lines of `unknown_lines_change_nothing`: the first and the last but one are understood.
+static WHYS: [&[u8]; 19] = [
+    b"len 0 0\n",
+    b"unknown word\n",
+    b"unknown word\n",
+    b"unknown rest\n",
+    b"unknown word\n",
+    b"unknown return\n",
+    b"unknown rest\n",
+    b"unknown rest\n",
+    b"unknown rest\n",
+    b"unknown rest\n",
+    b"unknown rest\n",
+    b"unknown rest\n",
+    b"unknown rest\n",
+    b"unknown rest\n",
+    b"unknown word\n",
+    b"unknown rest\n",
+    b"unknown rest\n",
+    b"len 0 0\n",
+    b"unknown end\n",
+];
+
+/// Lines that aren't understood are answered `unknown` and why, and so is what stands after the last newline, whatever it says.
 #[test]
 fn unknown_lines_change_nothing(rt: HostRuntime) {
     let alloc = rt.alloc();
     let lines =
         b"len\n\n len\nlen \nLen\nlen\r\npicture\npicture 01\npicture -1\npicture 10000000\nmovie 1\nstates \nquit 0\nshot\n\xFF\0\nload\ninsert 0 1 R\nlen\nlen";
-    let mut answers = [b"unknown\n".as_slice(); 19];
-    answers[0] = b"len 0 0\n";
-    answers[17] = b"len 0 0\n";
-    check_pieces(&rt, alloc, &[lines], &answers);
+    check_pieces(&rt, alloc, &[lines], &WHYS);
     for (lines, answers) in ENDS.iter() {
         check_said(&rt, alloc, lines, answers);
     }
@@ -199,7 +219,7 @@ fn lines_are_bounded(rt: HostRuntime) {
             longer.as_slice(),
         ],
     );
-    let answers = b"unknown\nedit 1 len 0\nunknown\nlen 1 0\nunknown\n".as_slice();
+    let answers = b"unknown long\nedit 1 len 0\nunknown long\nlen 1 0\nunknown long\n".as_slice();
     for at_once in [1, 7, 4095, 4096] {
         check_at_once(&rt, alloc, lines.as_slice(), at_once, answers);
     }
@@ -211,7 +231,7 @@ fn lines_are_bounded(rt: HostRuntime) {
         command,
         "blanks",
         &mut blanks,
-        (b"unknown\n", Ok(())),
+        (b"unknown end\n", Ok(())),
     );
 }
 
@@ -288,7 +308,7 @@ static ASKED: [(&[u8], usize); 10] = [
     (b"\n", 10),
     (b"insert 0 3 ..... ..... .....\nlen\nle", 25),
     (b"n\npicture 2\n", 10 + 19 + 100_815),
-    (b"states\nnothing\n", 11 + 8),
+    (b"states\nnothing\n", 11 + 13),
     (b"movie\n", 12 + 104),
     (b"quit\nlen\n", 0),
 ];
@@ -309,7 +329,7 @@ fn answers_are_out_before_the_next_read(rt: HostRuntime) {
     };
     let end = answer_lines(&rt, alloc, LineCommand::Talk, &mut input, &mut output);
     check_same(&rt, "end", end, Ok(()));
-    check_same(&rt, "passed", passed.get(), 101_052);
+    check_same(&rt, "passed", passed.get(), 101_057);
     check_that(&rt, "input.lines", input.lines.is_empty());
 }
 
@@ -333,7 +353,7 @@ fn check_full<R: Wait + Abort>(
 
 /// Rooms within and between the answers of the next test.
 static ROOMS: [usize; 12] = [
-    0, 12, 13, 27, 28, 1_000, 100_861, 100_862, 100_863, 100_871, 100_872, 100_879,
+    0, 12, 13, 27, 28, 1_000, 100_861, 100_862, 100_863, 100_871, 100_872, 100_883,
 ];
 
 /// A failed write is the last one, and tells how many bytes of the whole conversation went out, within a picture too.
@@ -349,9 +369,9 @@ fn a_failed_write_ends_the_conversation(rt: HostRuntime) {
             check_full(&rt, alloc, lines, whole, (*room, failure));
         }
     }
-    check_same(&rt, "whole", whole.len(), 100_880);
+    check_same(&rt, "whole", whole.len(), 100_884);
     let mut input = lines;
-    let mut output = Taker::new(alloc, 5_000, Room::Bytes(100_880), Failure::Error);
+    let mut output = Taker::new(alloc, 5_000, Room::Bytes(100_884), Failure::Error);
     let end = answer_lines(&rt, alloc, LineCommand::Talk, &mut input, &mut output);
     check_same(&rt, "room for all", end, Ok(()));
 }
@@ -360,9 +380,9 @@ fn a_failed_write_ends_the_conversation(rt: HostRuntime) {
 static FAILED_READS: [(usize, &[u8]); 5] = [
     (1, b""),
     (2, b""),
-    (3, b"len 0 0\nunknown\n"),
-    (4, b"len 0 0\nunknown\n"),
-    (5, b"len 0 0\nunknown\nlen 0 0\n"),
+    (3, b"len 0 0\nunknown word\n"),
+    (4, b"len 0 0\nunknown word\n"),
+    (5, b"len 0 0\nunknown word\nlen 0 0\n"),
 ];
 
 /// A failed read ends the conversation, with all whole lines answered.

@@ -10,6 +10,7 @@ use Rattle.clap.specs.declared.builder.command.Command.{Command}
 use Rattle.clap.specs.declared.builder.command.Command.TheViews.{out-Command}
 use Rattle.clap.specs.declared.builder.value_parser.ValueParser.{ValueParser}
 use Rattle.vcs_machine.specs.Machine.{profile}
+use Rattle.tas_language.specs.Answers.{program_version}
 use Rattle.tas_language.specs.Commands.{most_number}
 use Rattle.tas_movie.specs.Content.{most_inputs}
 use Rattle.tas_film.specs.Runs.{most_workers}
@@ -22,7 +23,7 @@ use Rattle.tas_words.specs.Task.{HasWords, IsOptionalWord, most_traced, most_eve
 
 -- what `tas --version` prints after the program's name: the program's version, and the number of the machine's profile
 abbrev pub version_text : Text
-version_text = codes "0.3.0, machine profile " ++ decimal profile
+version_text = program_version ++ codes ", machine profile " ++ decimal profile
 
 -- ---- the commands. Public contracts cite `IsAsked`, at the end, and so `command_line` and `named_command`; private functions cite the rest
 

@@ -289,6 +289,8 @@ next one is read, so that another program can hold the conversation. It has thes
                              its pixmap
   lag A B                    a line 'lag AT A B BYTES', then BYTES bytes: the lag frames of A to
                              B - 1
+  inputs FROM TO             a line 'inputs AT FROM TO BYTES', then BYTES bytes: lines 'PLACE COUNT
+                             FRAME', the runs of equal inputs of FROM to TO - 1, 1 to 1024 of them
   movie                      a line 'movie AT BYTES', then BYTES bytes: the movie's text
   states                     'states AT N' and the N frames after which a machine state is kept
   share                      'share AT N': shots now use the states that any seat's 'work' kept: N
@@ -296,6 +298,9 @@ next one is read, so that another program can hold the conversation. It has thes
   history FROM               a line 'history AT FROM COUNT BYTES', then BYTES bytes: edits from
                              number FROM on, lines 'NUMBER SEAT LINE', LINE as of a script; ask on
                              from FROM + COUNT
+  version                    'version PROGRAM profile N format N bytes WORDS': the version of the
+                             program, the numbers of the machine's profile and of the answers'
+                             format, and the first words of the answers after which bytes follow
   begin                      'begin AT LEN': a draft is opened; until it is committed or dropped,
                              lines change the draft alone and are answered by it
   commit                     'commit AT LEN': what the draft has changed is made in one step of at
@@ -303,11 +308,12 @@ next one is read, so that another program can hold the conversation. It has thes
                              and nothing is made
   drop                       'dropped': the draft is given up
   quit                       ends the conversation, as the end of standard input does
-AT is the number of edits so far. A line that isn't understood, or longer than 16384 bytes, is
-answered 'unknown' and changes nothing. With CART it starts from this cartridge, with MOVIE from
-this movie. That counts as two edits. Outside a draft a step from a picture to the next one plays
-one frame. Two of CART, MOVIE, standard input and standard output that are one ordinary file end it
-with status 2.
+AT is the number of edits so far. A line that isn't understood changes nothing, and is answered
+'unknown' and why: 'long', more than 16384 bytes; 'end', no newline; 'return', a carriage return;
+'rest', what follows a line's first word; or 'word'. With CART it starts from this cartridge, with
+MOVIE from this movie. That counts as two edits. Outside a draft a step from a picture to the next
+one plays one frame. Two of CART, MOVIE, standard input and standard output that are one ordinary
+file end it with status 2.
 With -o FILE the movie that the edits have made replaces FILE at the end, whatever ended the
 conversation; FILE may be MOVIE. A draft that is open then is lost. Without MOVIE FILE must be empty
 or not there.

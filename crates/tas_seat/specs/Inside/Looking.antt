@@ -1,7 +1,7 @@
 -- Looks, wherever they are answered: at a seat, or at a draft. Private functions cite this file.
 use Rattle.std.specs.Prelude.{◌≡◌, ℕ, ◌<◌, ◌≤◌, List, length, Option, Some, None, Result, Ok, Err, ◌⊎◌, MatchResult}
 use Rattle.vcs_machine.specs.declared.state.State.{State}
-use Rattle.tas_movie.specs.Content.{MovieContent, most_inputs}
+use Rattle.tas_movie.specs.Content.{MovieContent}
 use Rattle.tas_green.specs.Run.{state_after}
 use Rattle.tas_session.specs.declared.replies.Shot.{Shot}
 use Rattle.tas_session.specs.declared.replies.Reached.{Reached}
@@ -15,7 +15,7 @@ use Rattle.tas_engines.specs.declared.fault.RunFault.TheVariants.{Memory}
 use Rattle.tas_language.specs.declared.reply.Reply.TheVariants.{OutOfMemory}
 use Rattle.tas_language.specs.Replies.{reply_text}
 use Rattle.tas_language.specs.declared.request.Request.{Request}
-use Rattle.tas_language.specs.declared.request.Request.TheVariants.{Ram, Digest, Lag}
+use Rattle.tas_language.specs.declared.request.Request.TheVariants.{Ram, Lag}
 use Rattle.tas_seat.specs.Turns.{Standing}
 use Rattle.tas_seat.specs.Requests.{look_text, look_places}
 use Rattle.tas_seat.specs.Outcomes.{unshown_as}
@@ -36,7 +36,7 @@ IsStateFound stands entry same left from to (Ok reached) =
     (from ≤ to) × (to ≤ length stands.movie.inputs) × (reached.state ≡ state_after stands.movie from) × (reached.at ≡ stands.made) × left reached.ran
 IsStateFound stands entry same left from to (Err NoStateEntry) = entry
 IsStateFound stands entry same left from to (Err (FewFrames at len)) =
-    (from ≤ to → to ≤ length stands.movie.inputs → ⊥) × (at ≡ stands.made) × (len ≡ length stands.movie.inputs) × (len ≤ most_inputs) × same
+    (from ≤ to → to ≤ length stands.movie.inputs → ⊥) × (at ≡ stands.made) × (len ≡ length stands.movie.inputs) × same
 IsStateFound stands entry same left from to (Err NoStateMemory) = (from ≤ to) × (to ≤ length stands.movie.inputs) × same
 
 -- ---- what it is answered
@@ -44,7 +44,6 @@ IsStateFound stands entry same left from to (Err NoStateMemory) = (from ≤ to) 
 -- a look can be answered from this state
 abbrev pub CanLook : Request → MovieContent → State → Type 0
 CanLook (Ram k) movie begin = (k ≤ length movie.inputs) × (begin ≡ state_after movie k)
-CanLook (Digest k) movie begin = (k < length movie.inputs) × (begin ≡ state_after movie k)
 CanLook (Lag a b) movie begin = (a ≤ b) × (b ≤ length movie.inputs) × (begin ≡ state_after movie a)
 CanLook _ movie begin = ⊥
 
@@ -53,12 +52,11 @@ pub record AsksForState (look : Request) (from to : ℕ) : Type 0 where
   pub places : look_places look ≡ Some (from, from)
   pub can : (movie : MovieContent) → from ≤ to → to ≤ length movie.inputs → CanLook look movie (state_after movie from)
   pub found : (stands : Standing) → from ≤ to → to ≤ length stands.movie.inputs → (text : List ℕ) × (look_text stands look ≡ Some text)
-  pub none : (stands : Standing) → length stands.movie.inputs ≤ most_inputs → (from ≤ to → to ≤ length stands.movie.inputs → ⊥) → look_text stands look ≡ None
+  pub none : (stands : Standing) → (from ≤ to → to ≤ length stands.movie.inputs → ⊥) → look_text stands look ≡ None
 
 -- the looks at a state, of all requests
 abbrev pub IsStateLook : Request → Type 0
 IsStateLook (Ram k) = Unit {0}
-IsStateLook (Digest k) = Unit {0}
 IsStateLook (Lag a b) = Unit {0}
 IsStateLook _ = ⊥
 

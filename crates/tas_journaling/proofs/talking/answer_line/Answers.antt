@@ -1,5 +1,6 @@
 use Rattle.std.proofs.lemmas.Grind.{common_steps}
-use Rattle.std.proofs.Common.{Err, sym, subst, arith}
+use Rattle.std.proofs.Common.{Err, ap, sym, subst, arith}
+use Rattle.tas_language.specs.Unheard.{unknown_text}
 use Rattle.tas_seat.specs.Conversations.{talking}
 use Rattle.tas_journaling.specs.declared.talking.TalkFault.{TalkFault}
 use Rattle.tas_journaling.specs.Inside.{IsNotedTurn}
@@ -8,7 +9,7 @@ use Rattle.tas_journaling.proofs.talking.answer_line.Goals as goal
 
 pub returns-in_default-clause-turn : goal.returns-in_default-clause-turn
 returns-in_default-clause-turn g c = λ said holds none.
-    unknown_answered g.met.H.Noting.laws (talking c.args.seat.now c.args.draft.now) c.args.journal.now said c.args.written _ _ c.answer_unknown.result none (c.in_default.ensures said holds) c.answer_unknown.ensures.out c.answer_unknown.ensures.count
+    unknown_answered g.met.H.Noting.laws (talking c.args.seat.now c.args.draft.now) c.args.journal.now said _ c.args.written _ _ c.answer_unknown.result none (c.in_default.ensures said holds) (ap unknown_text (c.unheard.ensures said holds)) c.answer_unknown.ensures.out c.answer_unknown.ensures.count
     c.answer_unknown.ensures.fault
 
 pub returns-in-Ok-Some-clause-turn : goal.returns-in-Ok-Some-clause-turn

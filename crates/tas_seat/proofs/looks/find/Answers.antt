@@ -17,15 +17,6 @@ returns-in-Ram g c =
     ram_there (standing_at c.args.movie.now c.args.at) k can.0
     ∙ ap (λ (l : List ℕ). Some l) (sym (is ∙ ap (ram_text c.args.at k) (c.ram.ensures ∙ ap (λ (s : State). s.riot.ram) can.1)))) c.ram_answer.ensures)
 
-pub digest_frame-requires-clause-within : goal.digest_frame-requires-clause-within
-digest_frame-requires-clause-within g c = (rw c.in-Digest.is at c.requires).0
-
-pub digest_frame-requires-clause-begin : goal.digest_frame-requires-clause-begin
-digest_frame-requires-clause-begin g c = (rw c.in-Digest.is at c.requires).1
-
-pub returns-in-Digest : goal.returns-in-Digest
-returns-in-Digest g c = rw c.in-Digest.is c.digest_frame.ensures
-
 pub find_lag-requires-clause-order : goal.find_lag-requires-clause-order
 find_lag-requires-clause-order g c = (rw c.in-Lag.is at c.requires).0
 

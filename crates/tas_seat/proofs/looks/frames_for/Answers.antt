@@ -4,8 +4,5 @@ use Rattle.tas_seat.proofs.looks.frames_for.Goals as goal
 pub returns-in-Ram : goal.returns-in-Ram
 returns-in-Ram g = rw g.in-Ram.is (ram_asks g.in-Ram.frames)
 
-pub returns-in-Digest : goal.returns-in-Digest
-returns-in-Digest g = rw g.in-Digest.is g.one_frame.ensures
-
 pub returns-in-Lag : goal.returns-in-Lag
 returns-in-Lag g = rw g.in-Lag.is (lag_asks g.in-Lag.from g.in-Lag.to)

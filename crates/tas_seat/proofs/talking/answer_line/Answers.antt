@@ -1,20 +1,21 @@
-use Rattle.std.proofs.Common.{Some, refl, subst}
+use Rattle.std.proofs.Common.{Some, ap, subst}
 use Rattle.std.proofs.lemmas.Result.{err_from_is_err_and}
 use Rattle.std.proofs.KnownBytes.{Appends-nil}
 use Rattle.tas_language.specs.declared.request.Request.{Request}
 use Rattle.tas_language.specs.Requests.{IsHeard}
+use Rattle.tas_language.specs.Unheard.{unknown_text}
 use Rattle.tas_seat.specs.Conversations.{talking}
 use Rattle.tas_seat.proofs.TalkLemmas.{unknown_line, unknown_cut, known_line, known_cut, line_fault}
 use Rattle.tas_seat.proofs.talking.answer_line.Goals as goal
 
 pub returns-in_default : goal.returns-in_default
 returns-in_default g c = λ said holds none.
-    unknown_line (talking c.args.seat.now c.args.draft.now) said _ c.args.written _ _ _ none (c.in_default.ensures said holds) refl c.in_ok-answer_unknown.ensures.out c.in_ok-answer_unknown.ensures.count
+    unknown_line (talking c.args.seat.now c.args.draft.now) said _ c.args.written _ _ _ none (c.in_default.ensures said holds) (ap unknown_text (c.unheard.ensures said holds)) c.in_ok-answer_unknown.ensures.out c.in_ok-answer_unknown.ensures.count
 
 pub returns-in_err-answer_unknown : goal.returns-in_err-answer_unknown
 returns-in_err-answer_unknown g c = λ said holds none.
     let p = err_from_is_err_and c.from_residual.result c.from_residual.ensures.1 in
-    rw (p.1, p.2) (unknown_cut (talking c.args.seat.now c.args.draft.now) said _ c.args.written _ _ _ none (c.in_default.ensures said holds) refl c.in_err-answer_unknown.ensures.fault)
+    rw (p.1, p.2) (unknown_cut (talking c.args.seat.now c.args.draft.now) said _ c.args.written _ _ _ none (c.in_default.ensures said holds) (ap unknown_text (c.unheard.ensures said holds)) c.in_err-answer_unknown.ensures.fault)
 
 pub returns-in_default-2 : goal.returns-in_default-2
 returns-in_default-2 g c = λ said holds none.

@@ -1,5 +1,7 @@
 use Rattle.std.proofs.Common.{arith}
 use Rattle.std.proofs.lemmas.Grind.{common_steps}
+use Rattle.std.proofs.lemmas.Result.{err_from_is_err_and}
+use Rattle.tas_seat.proofs.DraftLemmas.{version_answered, lost_version}
 use Rattle.tas_seat.proofs.draft.Draft.answer_about_movie.Goals as goal
 
 pub returns-in_ok-answer_states-in-States-clause-desk : goal.returns-in_ok-answer_states-in-States-clause-desk
@@ -16,6 +18,29 @@ returns-in_ok-answer_retouch-in-Retouch-clause-desk g c = grind (arith, common_s
 
 pub returns-in_ok-answer_picture-in-Picture-clause-desk : goal.returns-in_ok-answer_picture-in-Picture-clause-desk
 returns-in_ok-answer_picture-in-Picture-clause-desk g c = grind (arith, common_steps)
+
+pub returns-in_ok-answer_frame_digest-in-Digest-clause-desk : goal.returns-in_ok-answer_frame_digest-in-Digest-clause-desk
+returns-in_ok-answer_frame_digest-in-Digest-clause-desk g c = grind (arith, common_steps)
+
+pub returns-in_ok-answer_frame_digest-in-Digest-clause-answer : goal.returns-in_ok-answer_frame_digest-in-Digest-clause-answer
+returns-in_ok-answer_frame_digest-in-Digest-clause-answer g c = grind (arith, common_steps)
+
+pub returns-in_ok-answer_inputs-in-Inputs-clause-desk : goal.returns-in_ok-answer_inputs-in-Inputs-clause-desk
+returns-in_ok-answer_inputs-in-Inputs-clause-desk g c = grind (arith, common_steps)
+
+pub returns-in_ok-answer_inputs-in-Inputs-clause-answer : goal.returns-in_ok-answer_inputs-in-Inputs-clause-answer
+returns-in_ok-answer_inputs-in-Inputs-clause-answer g c = grind (arith, common_steps)
+
+pub returns-in_ok-answer_version-in-Version-clause-desk : goal.returns-in_ok-answer_version-in-Version-clause-desk
+returns-in_ok-answer_version-in-Version-clause-desk g c = grind (arith, common_steps)
+
+pub returns-in_ok-answer_version-in-Version-clause-answer : goal.returns-in_ok-answer_version-in-Version-clause-answer
+returns-in_ok-answer_version-in-Version-clause-answer g c = rw c.in-Version.is (version_answered c.args.self.now c.in_ok-answer_version-in-Version.field-0.items c.in_ok-answer_version-in-Version.ensures)
+
+pub returns-in_err-answer_version-in-Version-clause-answer : goal.returns-in_err-answer_version-in-Version-clause-answer
+returns-in_err-answer_version-in-Version-clause-answer g c =
+    let p = err_from_is_err_and c.from_residual-in_err-answer_version-in-Version.result c.from_residual-in_err-answer_version-in-Version.ensures.1 in
+    rw (p.1, p.2) (rw c.in-Version.is (lost_version c.args.self.now c.in_err-answer_version-in-Version.field-0.0 c.in_err-answer_version-in-Version.ensures))
 
 pub returns-in_ok-answer_states-in-States-clause-answer : goal.returns-in_ok-answer_states-in-States-clause-answer
 returns-in_ok-answer_states-in-States-clause-answer g c = grind (arith, common_steps)

@@ -1,9 +1,13 @@
 use Rattle.std.proofs.lemmas.Grind.{common_steps}
 use Rattle.std.proofs.Common.{◌+◌, length, sym, ap, subst, ◌∙◌, arith}
+use Rattle.std.specs.Prelude.{OnOk}
+use Rattle.tas_green.specs.View.{both_of}
+use Rattle.tas_green.specs.Window.{IsOneAway}
 use Rattle.tas_desk.proofs.ZoneLemmas.{if_ok}
 use Rattle.tas_seat.specs.Drafts.{DraftContent, draft_of}
 use Rattle.tas_seat.specs.Inside.Drafting.{IsDraftPicture, IsDraftViewed}
 use Rattle.tas_seat.proofs.DraftLemmas.{draft_drawn, viewed_in, has_frame}
+use Rattle.tas_seat.proofs.TextLemmas.{on_ok}
 use Rattle.tas_seat.proofs.draft.Draft.picture.Goals as goal
 
 pub unwrap-viewed-requires : goal.unwrap-viewed-requires
@@ -11,8 +15,8 @@ unwrap-viewed-requires g c =
     let len = c.len-len.ensures.len ∙ ap (λ (m : _). length m.inputs) c.movie.ensures.movie ∙ sym (ap (λ (x : DraftContent). length x.movie.inputs) c.self.view_is) in
     has_frame c.picture.result (length c.self.inside.view.movie.inputs) c.args.k c.picture.ensures.past (omega (arith, len, c.if-k-len.false))
 
-pub returns : goal.returns
-returns g c =
+pub returns-clause-picture : goal.returns-clause-picture
+returns-clause-picture g c =
     let old = c.self.inside.view in
     let new = c.picture.new.self in
     let before = draft_of c.self.inside.at c.self.inside.base c.self.inside.made old in
@@ -27,8 +31,13 @@ returns g c =
     (viewed_in c.self.inside.at c.self.inside.made c.self.inside.base old new c.args.k (c.args.k + 1) ran e.movie e.lawful (if_ok _ c.picture.result c.unwrap-viewed.result ok e.kept))
     c.shown.ensures.shot c.shown.ensures.halted)
 
-pub returns-in_default : goal.returns-in_default
-returns-in_default g c = grind (arith, common_steps)
+pub returns-clause-forward : goal.returns-clause-forward
+returns-clause-forward g c =
+    let new = c.picture.new.self in
+    on_ok c.shown.result (IsOneAway new.movie (c.args.k + 1) (both_of new)) (subst (λ (r : _). OnOk r (IsOneAway new.movie (c.args.k + 1) (both_of new))) c.unwrap-viewed.ensures c.picture.ensures.forward)
 
-pub returns-then-k-len : goal.returns-then-k-len
-returns-then-k-len g c = grind (arith, common_steps)
+pub returns-in_default-clause-picture : goal.returns-in_default-clause-picture
+returns-in_default-clause-picture g c = grind (arith, common_steps)
+
+pub returns-then-k-len-clause-picture : goal.returns-then-k-len-clause-picture
+returns-then-k-len-clause-picture g c = grind (arith, common_steps)
