@@ -1,2 +1,3 @@
 pub mod DecimalLemmas
+pub mod Sendings
 pub mod SplitLemmas

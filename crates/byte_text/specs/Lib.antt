@@ -1,3 +1,4 @@
 pub mod CutOff
 pub mod Digits
+pub mod Sending
 pub mod Splitting

@@ -72,17 +72,15 @@ enum Run {
     Told,
     /// With the fault of a seat whose conversation the refusal ended.
     Cut,
-    /// With all conversations held, and nothing written.
-    After,
     /// As ever.
     Done,
     /// In another way.
     Wrong,
 }
 
-/// How many growths were refused before a door was opened, how many an answer reports, how many ended a conversation, and how many came after
-/// all.
-type Counts = (u64, u64, u64, u64);
+/// How many growths were refused before a door was opened, how many an answer reports, and how many ended a conversation. None comes after all:
+/// the movie's text takes no memory.
+type Counts = (u64, u64, u64);
 
 /// The place of the answer that a text begins with, and what comes after it.
 fn next_answer<'a>(text: &'a [u8], answers: &[&[u8]]) -> Option<(usize, &'a [u8])> {
@@ -174,9 +172,6 @@ fn unwritten_run(first: Talk, second: Talk, end: Result<(), ToolFault>) -> Run {
             Talk::Unopened,
             Talk::Unopened | Talk::Absent,
         ) => Run::Before,
-        (Err(ToolFault::Run(RunFault::Memory)), Talk::Whole, Talk::Whole | Talk::Absent) => {
-            Run::After
-        }
         _ => Run::Wrong,
     }
 }
@@ -239,14 +234,13 @@ fn count_refused<R: Wait + Threads + Sync + Abort>(
     seats: usize,
 ) -> Result<Counts, u64> {
     let image = image(rt, alloc);
-    let (mut before, mut told, mut cut, mut after) = (0u64, 0u64, 0u64, 0u64);
+    let (mut before, mut told, mut cut) = (0u64, 0u64, 0u64);
     for number in 1..MOST {
         match run_refused(rt, alloc, image.as_slice(), seats, number) {
             (Run::Before, true) => before = before.saturating_add(1),
             (Run::Told, true) => told = told.saturating_add(1),
             (Run::Cut, true) => cut = cut.saturating_add(1),
-            (Run::After, true) => after = after.saturating_add(1),
-            (Run::Done, false) => return Ok((before, told, cut, after)),
+            (Run::Done, false) => return Ok((before, told, cut)),
             _ => return Err(number),
         }
     }
@@ -255,11 +249,11 @@ fn count_refused<R: Wait + Threads + Sync + Abort>(
 
 /// The growths of one seat: 17 of a desk; two inputs, a cartridge and a movie, 5; the two edits that make it, 7; the room for what
 /// comes back, 4. Then a line's room, the answer to the edit, 2, and that to the look. The edit itself has 2, which its answer reports.
-/// Last comes the movie's text.
+/// The movie's text has none.
 #[test]
 fn each_growth_of_a_desk_of_one_seat_is_refused(rt: HostRuntime) {
     let counts = count_refused(&rt, rt.alloc(), 1);
-    check_same(&rt, "one", counts, Ok((33, 2, 4, 1)));
+    check_same(&rt, "one", counts, Ok((33, 2, 4)));
 }
 
 /// A second seat has 4 more for its zone, and as many as the first during its conversation. Which of these are refused to edits depends on
@@ -267,7 +261,7 @@ fn each_growth_of_a_desk_of_one_seat_is_refused(rt: HostRuntime) {
 #[test]
 fn each_growth_of_a_desk_of_two_seats_is_refused(rt: HostRuntime) {
     let counts = count_refused(&rt, rt.alloc(), 2);
-    let (before, told, cut, after) = expect_ok(&rt, counts);
+    let (before, told, cut) = expect_ok(&rt, counts);
     let during = told.saturating_add(cut);
-    check_same(&rt, "two", (before, during, after), (37, 12, 1));
+    check_same(&rt, "two", (before, during), (37, 12));
 }

@@ -34,16 +34,14 @@ enum Run {
     Cut,
     /// With the journal's fault: the edit is made, and its answer isn't out.
     Unnoted,
-    /// With the conversation held, and no movie written.
-    After,
     /// As ever.
     Done,
     /// In another way.
     Wrong,
 }
 
-/// How many growths ended so: before, told, cut, not noted, and after.
-type Counts = (u64, u64, u64, u64, u64);
+/// How many growths ended so: before, told, cut, and not noted.
+type Counts = (u64, u64, u64, u64);
 
 /// How a desk ended whose door was opened, by its end, its journal's bytes after the head, the answers, and whether a movie is written.
 fn begun_run(end: Result<(), DeskFault>, lines: &[u8], answers: &[u8], is_written: bool) -> Run {
@@ -66,8 +64,6 @@ fn begun_run(end: Result<(), DeskFault>, lines: &[u8], answers: &[u8], is_writte
                 fault: JournalFault::Memory,
             },
         ) if is_written && is_alone && answers.is_empty() => Run::Unnoted,
-        Err(DeskFault::Tool(ToolFault::Run(RunFault::Memory)))
-            if !is_written && told == 1 && is_noted => { Run::After }
         _ => Run::Wrong,
     }
 }
@@ -154,15 +150,14 @@ fn count_refused<R: Wait + Threads + Sync + Abort>(
     head: &[u8],
 ) -> Result<Counts, u64> {
     let image = image(rt, alloc);
-    let (mut before, mut told, mut cut, mut unnoted, mut after) = (0u64, 0u64, 0u64, 0u64, 0u64);
+    let (mut before, mut told, mut cut, mut unnoted) = (0u64, 0u64, 0u64, 0u64);
     for number in 1..MOST {
         match run_refused(rt, alloc, image.as_slice(), head, number) {
             (Run::Before, true) => before = before.saturating_add(1),
             (Run::Told, true) => told = told.saturating_add(1),
             (Run::Cut, true) => cut = cut.saturating_add(1),
             (Run::Unnoted, true) => unnoted = unnoted.saturating_add(1),
-            (Run::After, true) => after = after.saturating_add(1),
-            (Run::Done, false) => return Ok((before, told, cut, unnoted, after)),
+            (Run::Done, false) => return Ok((before, told, cut, unnoted)),
             _ => return Err(number),
         }
     }
@@ -174,9 +169,9 @@ const HEAD: &[u8] =
     b"a26journal 1\nprofile 2\nmovie 102 a3088da776a8c895663a29f828d4eb066daea226f3ab54bd21a71c46dcf07c1d\na26movie 2\ncart 820c64e9933496de683a000c5e11f0510fb7b1699b2ce86471295236b284906d\n..... ..... ..... x3\n";
 
 /// Before the door is opened a desk of two seats has 37 growths; the others are the journal's. Then a line's room, and those of the answers, are 4;
-/// the edit has 2, which its answer reports, and the journal's line 8. Last comes the movie's text.
+/// the edit has 2, which its answer reports, and the journal's line 8. The movie's text has none.
 #[test]
 fn each_growth_of_a_desk_with_a_journal_is_refused(rt: HostRuntime) {
     let counts = count_refused(&rt, rt.alloc(), HEAD);
-    check_same(&rt, "journal", counts, Ok((47, 2, 4, 8, 1)));
+    check_same(&rt, "journal", counts, Ok((47, 2, 4, 8)));
 }

@@ -1,6 +1,7 @@
 pub mod AnswerLemmas
 pub mod CommitLemmas
 pub mod CutLemmas
+pub mod FillLemmas
 pub mod GainLemmas
 pub mod LockedLemmas
 pub mod PartLemmas

@@ -17,8 +17,9 @@ use Rattle.tas_desk.specs.declared.work.Worked.{Worked}
 use Rattle.tas_published.specs.History.{movie_of}
 use Rattle.tas_session.specs.Session.{SessionContent}
 use Rattle.tas_desk.specs.Locked.{LockedContent, locked_of}
-use Rattle.tas_desk.specs.Work.{IsJobFrom, IsJobOf, IsRunOf, Takes, IsTaken, with_job, none_worked, IsJobDone, AreJobs, KeepsCart}
+use Rattle.tas_desk.specs.Work.{IsJobFrom, IsJobOf, IsRunOf, Takes, IsTaken, with_job, none_worked, IsJobDone, AreJobs, IsOneJob, KeepsCart}
 use Rattle.tas_desk.specs.Zones.{ZoneContent, CutsWindow, IsMadeFor, IsShared, Shares}
+use Rattle.tas_desk.proofs.FillLemmas.{gain_of}
 use Rattle.tas_desk.proofs.GainLemmas.{taken_within}
 use Rattle.tas_published.proofs.PrefixLemmas.{prefix_self, prefix_trans}
 
@@ -110,7 +111,7 @@ job_done before at now near job batch offered begins goes_on of run taken same =
   batch = batch;
   run = run;
   stale = (λ none. absurd cc, λ differs. absurd (same (λ is. differs (sym is ∙ run.cart ∙ of.is.cart))));
-  taken = (offered, taken, refl);
+  taken = gain_of (movie_of at) (movie_of now) near job batch offered of run taken;
   most = taken_within (movie_of now) batch offered near (movie_of at).inputs taken (run.inputs ∙ of.is.inputs);
 }
 
@@ -182,3 +183,14 @@ pub jobs_before : {A : Type 0} (before now then : List (Entry A)) (last : Worked
     → AreJobs before none_worked (take last.jobs targets) last then
 jobs_before before now then last targets i is jobs more =
     subst (λ (n : ℕ). AreJobs before none_worked (take n targets) last then) (sym is) (jobs_then before now then none_worked last (take i targets) jobs more)
+
+-- one target's
+pub one_job : {A : Type 0} (before now later : List (Entry A)) (near : ℕ) (worked : Worked) → AreJobs before none_worked (near ∷ []) worked now → IsPrefix now later → IsOneJob before later near worked
+unfolding AreJobs
+one_job before now later near worked jobs more = record {
+  gained = jobs.0;
+  last = jobs.1;
+  job = jobs.2;
+  counted = jobs.3.0;
+  goes_on = prefix_trans jobs.1 now later jobs.3.1 more;
+}

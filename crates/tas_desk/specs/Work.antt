@@ -1,5 +1,6 @@
 -- Jobs, what they made, and replies to work.
-use Rattle.std.specs.Prelude.{◌≡◌, ◌≢◌, ◌↔◌, ℕ, ◌+◌, ◌*◌, ◌/◌, ◌<◌, ◌≤◌, List, [], ◌∷◌, length, take, min, Option, Some, None, IfSome, Result, Ok, Err}
+use Rattle.std.specs.Prelude.{◌≡◌, ◌≢◌, ◌↔◌, ℕ, ◌+◌, ◌*◌, ◌/◌, ◌<◌, ◌≤◌, ◌&&◌, Bool, List, [], ◌∷◌, length, take, min, is_none, count_by, Option, Some, None, IfSome, Result, Ok, Err}
+use Rattle.std.specs.List.{range_with_len}
 use mathlib.Core.List.{IsPrefix}
 use Rattle.vcs_machine.specs.Machine.{after}
 use Rattle.tas_movie.specs.Content.{MovieContent}
@@ -51,6 +52,23 @@ pub record IsTaken (movie : MovieContent) (batch : BatchContent) (offered : Offe
   pub lawful_now : IsLawful movie now
   pub takes : Takes before now movie batch offered
 
+-- a place of a movie's grid after `from`, up to `to`, at which a list has no state
+abbrev pub is_lacking : MovieContent → (from to : ℕ) → List Savestate → ℕ → Bool
+is_lacking movie from to zone f = is_passed (stride (length movie.inputs)) from to f && is_none (state_at f zone)
+
+-- how many such places there are
+abbrev pub lacking : MovieContent → (from to : ℕ) → List Savestate → ℕ
+lacking movie from to zone = count_by (is_lacking movie from to zone) (range_with_len 1 (length movie.inputs))
+
+-- some zone that is lawful for a movie takes what a job of the movie `was` made, as far as the two movies' inputs agree, and gains `kept` states: at most as many as it lacked at places of
+-- the grid after the job's start, up to the job's frames; and where the movie is still `was`, just as many
+pub record IsGain (was movie : MovieContent) (job : JobContent) (batch : BatchContent) (kept : ℕ) : Type 0 where
+  pub offered : Offered
+  pub taken : IsTaken movie batch offered
+  pub counted : offered.kept ≡ kept
+  pub most : kept ≤ lacking movie job.start (length job.inputs) taken.before
+  pub exact : movie ≡ was → kept ≡ lacking movie job.start (length job.inputs) taken.before
+
 -- what was worked, once there was one job more: it gained this many states, which are counted up to what a `usize` holds, or it
 -- was stale
 abbrev pub with_job : Worked → Option ℕ → Worked
@@ -59,7 +77,7 @@ with_job worked None = record { jobs = worked.jobs + 1; kept = worked.kept; stal
 
 -- a job for the first `near` frames, by a seat that had seen `before` and has now seen `now`: there are a history between these two, a job that starts there from the nearest state
 -- of some zone that is lawful for its movie, and what running that job makes. The job is stale exactly where this history and `now` have different cartridges; else some zone that is
--- lawful at `now` takes these states, as far as the two movies' inputs agree, and `gained` is how many of them it lacked: at most as many as the grid at `now` has places up to `near`
+-- lawful at `now` gained these states: at most as many as the grid at `now` has places up to `near`, and where nobody edited between, as many as it lacked from the job's start on
 pub record IsJobDone {A : Type 0} (before now : List (Entry A)) (near : ℕ) (gained : Option ℕ) : Type 0 where
   pub at : List (Entry A)
   pub begins : IsPrefix before at
@@ -69,7 +87,7 @@ pub record IsJobDone {A : Type 0} (before now : List (Entry A)) (near : ℕ) (ga
   pub batch : BatchContent
   pub run : IsRunOf job batch
   pub stale : (gained ≡ None) ↔ ((movie_of now).cart ≢ (movie_of at).cart)
-  pub taken : IfSome gained (λ kept. (offered : Offered) × IsTaken (movie_of now) batch offered × (offered.kept ≡ kept))
+  pub taken : IfSome gained (IsGain (movie_of at) (movie_of now) job batch)
   pub most : IfSome gained (λ kept. kept ≤ min near (length (movie_of now).inputs) / stride (length (movie_of now).inputs))
 
 -- before any job
@@ -81,6 +99,14 @@ unfoldable pub AreJobs : {A : Type 0} → (before : List (Entry A)) → (worked 
 AreJobs before worked [] last now = (last ≡ worked) × IsPrefix before now
 AreJobs {A} before worked (near ∷ targets) last now =
     (gained : Option ℕ) × (then : List (Entry A)) × IsJobDone before then near gained × AreJobs then (with_job worked gained) targets last now
+
+-- one job was done, for the first `near` frames, and counted; the seat may have seen more since
+pub record IsOneJob {A : Type 0} (before now : List (Entry A)) (near : ℕ) (worked : Worked) : Type 0 where
+  pub gained : Option ℕ
+  pub last : List (Entry A)
+  pub job : IsJobDone before last near gained
+  pub counted : worked ≡ with_job none_worked gained
+  pub goes_on : IsPrefix last now
 
 -- just these jobs were done; or memory was refused, and those of the targets before
 abbrev pub HasWorked : {A : Type 0} → List (Entry A) → List ℕ → Result Worked WorkError → List (Entry A) → Type 0

@@ -81,6 +81,8 @@ impl<N: Name, W: CloseOnDrop, A: Allocator + Copy> Desk<N, W, A> {
         // For each target there are two histories that the seat has seen since, a job that is one at the first of them for
         // that many frames of its movie, and what running it makes. The job is stale exactly where the two histories'
         // cartridges differ; else as many states are counted as some zone that is lawful at the second lacks of it.
+        // Where nobody edited between, these are all places of the movie's grid after the job's start, up to its frames,
+        // at which that zone has no state; else at most these.
         // After `Memory` this holds of the first targets, as many as are reported. No clause says which zone it is.
         // Refused: job_is_for_half_the_frames, gained_states_are_reported_as_none,
         // refused_offer_is_reported_as_nothing_gained.

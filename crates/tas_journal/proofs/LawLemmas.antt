@@ -1,13 +1,13 @@
 -- One text has one journal.
 use Rattle.std.proofs.Common.{◌≡◌, ℕ, suc, ◌+◌, ◌*◌, ◌/◌, ◌%◌, ◌<◌, ◌≤◌, ◌^◌, Bool, true, false, cond, List, [], ◌∷◌, ◌++◌, length, get_or, take, drop, Option, Some, refl, sym, ap, subst, ◌∙◌, arith, append_assoc}
-use Rattle.std.specs.Prelude.{◌==◌, codes, decimal, nat_lt}
+use Rattle.std.specs.Prelude.{codes, decimal, nat_lt}
 use Rattle.std.specs.List.{flat_map}
 use Rattle.std.proofs.lemmas.Bool.{eqb-false}
-use Rattle.std.proofs.lemmas.Fmt.{decimal_by_steps, decimal_injective, length-decimal-le}
+use Rattle.std.proofs.lemmas.Fmt.{decimal_by_steps, decimal_injective}
 use Rattle.std.proofs.lemmas.List.{append_cancel_left, length-append}
 use Rattle.sha2.specs.Sha256.{sha256}
 use Rattle.sha2.proofs.Facts256.{length-sha256}
-use Rattle.hex.specs.Hex.{encode_with, encode_lower, lower_digits}
+use Rattle.hex.specs.Hex.{encode_lower, lower_digits}
 use Rattle.byte_text.specs.Digits.{digit_of}
 use Rattle.byte_text.specs.Splitting.{NoByte}
 use Rattle.byte_text.proofs.SplitLemmas.{same_front}
@@ -18,6 +18,7 @@ use Rattle.tas_movie.specs.Text.{line, frame_text, count_text, run_text, run_lin
 use Rattle.tas_movie.specs.declared.edit.Edit.{Edit}
 use Rattle.tas_movie.specs.declared.edit.Edit.TheVariants as edit
 use Rattle.tas_movie.specs.declared.run.FrameRun.{FrameRun}
+use Rattle.tas_movie.proofs.PrintLemmas.{hex_length, digest_length, count_length}
 use Rattle.tas_movie.proofs.RunLemmas.{length-runs, runs_made, runs_longest}
 use Rattle.tas_movie.proofs.TextLemmas.{NoBreak, NoBreak-append, NoBreak-push, frame_no_break}
 use Rattle.tas_movie.proofs.TwoTexts.{same_text2}
@@ -202,25 +203,6 @@ lines_same {A} number (a ∷ es) (f ∷ fs) lt less fit are e =
     ap (λ (x : Entry A). x ∷ es) first ∙ ap (λ (l : List (Entry A)). f ∷ l) rest
 
 -- ---- one text has one head
-
-hex_length : (t xs : List ℕ) → length (encode_with t xs) ≡ 2 * length xs
-unfolding encode_with
-hex_length t [] = refl
-hex_length t (b ∷ xs) = let ih = hex_length t xs in omega (arith, ih)
-
-digest_length : (cart : List ℕ) → length (digest_text cart) ≡ 69
-unfolding digest_text
-digest_length cart = let digits = hex_length lower_digits (sha256 cart) in omega (arith, digits, length-sha256 cart)
-
-count_length : (n : ℕ) → IsNumber n → length (count_text n) ≤ 9
-count_length n small = go (n == 1)
-  where
-    digits : length (decimal n) ≤ 7
-    digits = length-decimal-le 7 n (omega arith) (omega (arith, small)) (omega (arith, small))
-
-    go : (one : Bool) → length (cond one [] (codes " x" ++ decimal n)) ≤ 9
-    go true = omega arith
-    go false = omega (arith, digits)
 
 runs_length : (rs : List FrameRun) → AreLongest rs → length (flat_map run_inputs rs) ≤ most_inputs → length (flat_map run_line rs) ≤ 27 * length (flat_map run_inputs rs)
 unfolding AreLongest

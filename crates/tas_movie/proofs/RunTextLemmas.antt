@@ -6,7 +6,7 @@ use Rattle.std.specs.Str.{all_ascii_digits}
 use Rattle.std.specs.Str.Parse.{digits_value}
 use Rattle.std.proofs.lemmas.Bool.{both_ways, cases_Bool, cases_eq, eqb-true, eqb-false, false≢true, ne_eqb, not-true, and_parts, and_from, le-leb, lt-leb, leb-true, lt-ltb, le-ltb}
 use Rattle.std.proofs.lemmas.Fmt.{decimal-digits_value, digits_decimal, digits_value-decimal, first_decimal, decimal_by_steps, decimal_injective, decimal_is_IsNumeral}
-use Rattle.std.proofs.lemmas.List.{append-nil, length-append, length-replicate, take-append-drop, take_all, flat_map_more}
+use Rattle.std.proofs.lemmas.List.{length-append, length-replicate, take-append-drop, take_all, flat_map_more}
 use Rattle.std.proofs.lemmas.Str.Parse.{IsNumeralModel, numerals_by_value, tells_all_ascii_digits}
 use Rattle.vcs_inputs.specs.declared.input.Input.{Input}
 use Rattle.vcs_inputs.specs.Input.{are_same_inputs}
@@ -17,7 +17,7 @@ use Rattle.tas_movie.specs.Content.{most_inputs}
 use Rattle.tas_movie.specs.Runs.{run_inputs, runs_of, BeginOtherwise, AreLongest}
 use Rattle.tas_movie.specs.Text.{line, frame_text, count_text, run_text, run_line}
 use Rattle.tas_movie.specs.Fault.{SplitLines, split_lines, shown_input, is_frame, shown_count, shown_run, is_many, is_count, is_run, is_repeated, IsRunLine, run_fault, fault_at, fault_or, runs_fault, fault_by}
-use Rattle.tas_movie.proofs.RunLemmas.{equal_same, apart_same, runs_longest, runs_made, runs_split, runs_more, run_is_last, length-runs}
+use Rattle.tas_movie.proofs.RunLemmas.{equal_same, apart_same, runs_longest, runs_made, runs_more, run_is_last, length-runs}
 use Rattle.tas_movie.proofs.TextLemmas.{NoBreak, NoBreak-push, NoBreak-append, split_lines-line, input_read, frame_shown, is_frame-frame, frame_no_break}
 
 -- ---- the line of a run
@@ -194,44 +194,6 @@ runs_read bytes old new rest l after r is rest-is said other new-is =
 pub none_read : (list : List Input) (bytes : List ℕ) → list ≡ [] → bytes ≡ flat_map run_line (runs_of list) ++ bytes
 unfolding runs_of
 none_read list bytes none = ap (λ (l : List Input). flat_map run_line (runs_of l) ++ bytes) (sym none)
-
--- ---- printing
-
--- a frame that comes once is printed
-pub printed_once : (out frame framed now : List ℕ) (r : FrameRun) → r.count ≡ 1 → frame ≡ frame_text r.input → framed ≡ out ++ frame → now ≡ framed ++ 10 ∷ [] → now ≡ out ++ run_line r
-printed_once out frame framed now r one frame-is framed-is now-is =
-    now-is ∙ ap (λ (l : List ℕ). l ++ 10 ∷ []) (framed-is ∙ ap (λ (l : List ℕ). out ++ l) frame-is)
-    ∙ append_assoc out (frame_text r.input) (10 ∷ [])
-    ∙ ap (λ (n : ℕ). out ++ line (frame_text r.input ++ count_text n)) (sym one)
-
--- a frame that comes more than once is printed
-pub printed_often : (out frame framed marked times counted now : List ℕ) (r : FrameRun) → (r.count ≡ 1 → ⊥) → frame ≡ frame_text r.input → framed ≡ out ++ frame → marked ≡ framed ++ codes " x"
-    → times ≡ decimal r.count → counted ≡ marked ++ times → now ≡ counted ++ 10 ∷ [] → now ≡ out ++ run_line r
-printed_often out frame framed marked times counted now r ne frame-is framed-is marked-is times-is counted-is now-is =
-    let begun : List ℕ = frame_text r.input in
-    let number : List ℕ = decimal r.count in
-    let together : counted ≡ ((out ++ begun) ++ codes " x") ++ number =
-    counted-is ∙ ap (λ (l : List ℕ). marked ++ l) times-is ∙ ap (λ (l : List ℕ). l ++ number) (marked-is ∙ ap (λ (l : List ℕ). l ++ codes " x") (framed-is ∙ ap (λ (l : List ℕ). out ++ l) frame-is)) in
-    now-is
-    ∙ ap (λ (l : List ℕ). l ++ 10 ∷ []) (together ∙ append_assoc (out ++ begun) (codes " x") number ∙ append_assoc out begun (codes " x" ++ number))
-    ∙ append_assoc out (begun ++ (codes " x" ++ number)) (10 ∷ [])
-    ∙ ap (λ (b : Bool). out ++ line (begun ++ cond b [] (codes " x" ++ number))) (sym (ne_eqb r.count 1 ne))
-
--- a run more is printed
-pub runs_printed : (out now : List ℕ) (rest after : List Input) (i : Input) (n : ℕ) (whole : List ℕ) → 1 ≤ n → take n rest ≡ replicate n i → (n < length rest → slice_get rest n ≡ Some i → ⊥)
-    → now ≡ out ++ run_line (record { input = i; count = n }) → after ≡ drop n rest → out ++ flat_map run_line (runs_of rest) ≡ whole → now ++ flat_map run_line (runs_of after) ≡ whole
-runs_printed out now rest after i n whole le same longest now-is after-is is =
-    let run : FrameRun = record { input = i; count = n } in
-    ap (λ (x : List ℕ). x ++ flat_map run_line (runs_of after)) now-is
-    ∙ append_assoc out (run_line run) (flat_map run_line (runs_of after))
-    ∙ ap (λ (l : List Input). out ++ (run_line run ++ flat_map run_line (runs_of l))) after-is
-    ∙ ap (λ (q : List FrameRun). out ++ flat_map run_line q) (sym (runs_split rest i n le same longest))
-    ∙ is
-
-pub none_printed : (out : List ℕ) (rest : List Input) (whole : List ℕ) → length rest ≡ 0 → out ++ flat_map run_line (runs_of rest) ≡ whole → out ≡ whole
-unfolding runs_of
-none_printed out [] whole none is = sym (append-nil out) ∙ is
-none_printed out (x ∷ rest) whole none is = absurd (omega arith)
 
 -- ---- a text has no fault
 

@@ -25,6 +25,6 @@ pub use front::common_front;
 pub use inputs::Inputs;
 pub use laws::{limits_are_exact, one_movie_per_text, runs_are_longest, texts_have_no_fault};
 pub use movie::{MAX_FRAMES, Movie};
-pub use printing::{FRAME_TEXT_SIZE, print_frame, print_text};
+pub use printing::{FRAME_TEXT_SIZE, print_frame, print_text, write_text};
 pub use reading::{MAX_FRAMES1, read_frame, read_text};
 pub use run::{FrameRun, run_length};

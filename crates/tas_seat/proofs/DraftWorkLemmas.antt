@@ -1,7 +1,7 @@
 -- The states that `work` keeps in a draft.
-use Rattle.std.proofs.Common.{◌≡◌, ℕ, ◌+◌, ◌-◌, ◌≤◌, ◌%◌, Bool, true, false, eqb, List, length, take, min, Option, Some, refl, ap, subst, ◌∙◌, inl, inr, arith}
+use Rattle.std.proofs.Common.{◌≡◌, ℕ, ◌+◌, ◌-◌, ◌≤◌, ◌%◌, Bool, true, false, eqb, List, length, take, min, Option, Some, refl, ap, subst, ◌∙◌, arith}
 use Rattle.std.specs.Prelude.{nat_le, ◌&&◌}
-use Rattle.std.proofs.lemmas.Bool.{cases_lt, leb-true, and_parts}
+use Rattle.std.proofs.lemmas.Bool.{leb-true, and_parts}
 use Rattle.std.proofs.lemmas.List.{take-take, length-take-le}
 use Rattle.std.proofs.Math.Nat.{min-le_right}
 use Rattle.vcs_inputs.specs.declared.input.Input.{Input}
@@ -15,15 +15,8 @@ use Rattle.tas_green.specs.Grid.{stride}
 use Rattle.tas_green.specs.Green.{IsLawful, IsReachedFrom}
 use Rattle.tas_green.specs.Zone.{state_at, nearest, first_of, where_true, is_on_grid, is_passed}
 use Rattle.tas_green.proofs.ViewLemmas.{nearest_le}
-use Rattle.tas_desk.proofs.CutLemmas.{get_take}
+use Rattle.tas_desk.proofs.FillLemmas.{whole_front}
 use Rattle.tas_seat.proofs.DraftLemmas.{played_over}
-
--- the first inputs of a list begin it as a whole
-whole_front : (xs : List Input) (end front : ℕ) → end ≤ length xs → IsCommonFront (take end xs) xs front → front ≡ end
-whole_front xs end front le common = elim (cases_lt front end) [
-  | inl less ↦ let long = length-take-le end xs le in absurd (common.longest (omega (arith, long, less)) (omega (arith, le, less)) (get_take xs end front less))
-  | inr most ↦ let within = common.within_a in let long = length-take-le end xs le in omega (arith, within, long, most)
-]
 
 -- what is passed up to a place is on the grid up to it
 passed_once : (s from end f : ℕ) (there : Option State) → where_true (is_on_grid s end f) (where_true (is_passed s from end f) there) ≡ where_true (is_passed s from end f) there

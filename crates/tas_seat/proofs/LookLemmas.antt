@@ -1,5 +1,5 @@
 -- Commands that make no edit.
-use Rattle.std.proofs.Common.{◌≡◌, ℕ, ◌+◌, ◌≤◌, length, true, false, Some, None, Result, Ok, Err, inl, inr, refl, sym, ap, subst, ◌∙◌}
+use Rattle.std.proofs.Common.{◌≡◌, ℕ, ◌+◌, ◌≤◌, [], ◌∷◌, length, true, false, Some, None, Result, Ok, Err, inl, inr, refl, sym, ap, subst, ◌∙◌}
 use Rattle.std.specs.Prelude.{MatchResult}
 use Rattle.std.proofs.lemmas.Option.{slice_get_past}
 use Rattle.vcs_tia.specs.Picture.{lit_count}
@@ -13,9 +13,10 @@ use Rattle.tas_published.proofs.PrefixLemmas.{prefix_trans}
 use Rattle.tas_published.specs.Looks.{answer_input}
 use Rattle.tas_published.specs.declared.errors.InputError.{InputError}
 use Rattle.tas_desk.specs.Seats.{SeatContent, HasSeen, KeepsZone, IsInput, IsZoneShot}
-use Rattle.tas_desk.specs.Work.{IsTally, KeepsCart}
+use Rattle.tas_desk.specs.Work.{none_worked, AreJobs, IsTally, KeepsCart}
 use Rattle.tas_desk.specs.Zones.{ZoneContent, CutsWindow, IsPlayed, IsShared}
 use Rattle.tas_desk.specs.declared.work.Worked.{Worked as Counted}
+use Rattle.tas_desk.proofs.WorkLemmas.{one_job}
 use Rattle.tas_engines.specs.declared.fault.RunFault.{RunFault}
 use Rattle.tas_language.specs.declared.command.Command.{Command}
 use Rattle.tas_language.specs.declared.command.Command.TheVariants.{Length, InputAt, Shot, Work}
@@ -102,9 +103,9 @@ shot_answered {A} before now k drawn r seen is zone cut has =
 pub work_refused : (A : Type 0) (before now : SeatContent A) (k : ℕ) → HasSeen before now → now.zone ≡ before.zone → IsAnswered A before now (Work k) OutOfMemory
 work_refused A before now k seen zone = record { at = now.front; turn = (unforeseen true, refl, refl); leaves = rests before now now.front now.front zone; seat = looked_nothing before now seen; zone = inl zone; counts = tt }
 
-pub work_answered : (A : Type 0) (before mid now : SeatContent A) (k : ℕ) (done : Counted) (gained : ℕ) → KeepsZone before mid → HasSeen mid now → done.jobs ≡ 1 → IsTally done → (KeepsCart before.front mid.front → done.stale ≡ 0)
-    → IsShared mid.zone now.zone now.front gained → IsAnswered A before now (Work k) (Worked done.jobs done.kept done.stale)
-work_answered A before mid now k done gained keeps seen one tally current shared =
+pub work_answered : (A : Type 0) (before mid now : SeatContent A) (k : ℕ) (done : Counted) (gained : ℕ) → KeepsZone before mid → HasSeen mid now → done.jobs ≡ 1 → IsTally done → AreJobs before.front none_worked (k ∷ []) done mid.front
+    → (KeepsCart before.front mid.front → done.stale ≡ 0) → IsShared mid.zone now.zone now.front gained → IsAnswered A before now (Work k) (Worked done.jobs done.kept done.stale)
+work_answered A before mid now k done gained keeps seen one tally jobs current shared =
     let whole : IsShared before.zone now.zone now.front gained = subst (λ (z : ZoneContent A). IsShared z now.zone now.front gained) keeps.zone shared in
     record {
       at = now.front;
@@ -112,7 +113,11 @@ work_answered A before mid now k done gained keeps seen one tally current shared
       leaves = gains_at before now now.front gained whole;
       seat = looked_nothing before now (seen_more before mid now keeps.seen seen);
       zone = inr whole.cut;
-      counts = (record { stale = tally.stale; kept = tally.kept }, λ still. current (λ front begins ends. still front begins (prefix_trans front mid.front now.front ends seen.begins)));
+      counts = record {
+        job = one_job before.front mid.front now.front k done jobs seen.begins;
+        tally = tally;
+        current = λ still. current (λ front begins ends. still front begins (prefix_trans front mid.front now.front ends seen.begins));
+      };
     }
 
 -- a name of a command

@@ -7,7 +7,8 @@ use Rattle.tas_green.specs.Window.{IsPlayedNear, both}
 use Rattle.tas_published.specs.History.{movie_of}
 use Rattle.tas_desk.specs.Parts.{one_part}
 use Rattle.tas_desk.specs.Seats.{SeatContent, entry_of}
-use Rattle.tas_desk.specs.Work.{IsTally, KeepsCart}
+use Rattle.tas_desk.specs.Work.{IsOneJob, IsTally, KeepsCart}
+use Rattle.tas_desk.specs.declared.work.Worked.{Worked as Counted}
 use Rattle.tas_desk.specs.Zones.{ZoneContent, CutsWindow, IsMadeFor}
 use Rattle.tas_language.specs.declared.command.Command.{Command}
 use Rattle.tas_language.specs.declared.command.Command.TheVariants.{Shot, Work}
@@ -66,10 +67,16 @@ LeavesZone before now (Do command) answer = CommandLeavesZone before.zone now.zo
 LeavesZone before now (Retouch retouch) answer = now.zone ≡ before.zone
 LeavesZone before now request answer = LookLeavesZone before now request answer
 
--- what the reply to `work` counts is one job's: it gained no more states than a zone can have, or it was stale and gained none; it isn't stale where
--- no other cartridge is loaded after what the seat had seen
+-- what the reply to `work K` counts is one job's, for K frames, between what the seat had seen and has now seen. It was stale and gained none, exactly where the cartridge changed between
+-- its beginning and its end; else it gained the places of the movie's grid that a lawful zone lacked, after the job's start and up to K or the movie's end, or fewer where somebody edited
+-- between, and no more than a zone can have. It isn't stale where no other cartridge is loaded after what the seat had seen
+pub record CountsJob {A : Type 0} (before now : List (Entry A)) (k : ℕ) (worked : Counted) : Type 0 where
+  pub job : IsOneJob before now k worked
+  pub tally : IsTally worked
+  pub current : KeepsCart before now → worked.stale ≡ 0
+
 abbrev pub CountsWork : {A : Type 0} → List (Entry A) → List (Entry A) → Command → Reply → Type 0
-CountsWork before now (Work k) (Worked jobs kept stale) = IsTally (record { jobs = jobs; kept = kept; stale = stale }) × (KeepsCart before now → stale ≡ 0)
+CountsWork before now (Work k) (Worked jobs kept stale) = CountsJob before now k (record { jobs = jobs; kept = kept; stale = stale })
 CountsWork before now _ _ = Unit {0}
 
 -- the same of a request's answer

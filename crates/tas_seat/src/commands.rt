@@ -150,9 +150,13 @@ pub fn reply_to_command<N: Name, W: CloseOnDrop, A: Allocator + Copy, R: Wait>(
     // Refused: input_line_shows_the_first_frame*, len_line_reports_half_the_length,
     // edit_is_reported_at_the_front_before*, loaded_cartridge_is_blank*, insert_line_replaces*,
     // half_of_the_copies_are_put_in*.
-    // The numbers of a `work` line are those of one job: it gained 512 states at most, or it was stale and gained none.
+    // The numbers of a line `work K` are those of one job, for K frames or all: it gained 512 states at most, or it was
+    // stale and gained none. Where nobody edited between, it gained a state for each place of the grid after the one that
+    // it started from, up to its frames, at which a lawful list had none; else at most as many. Where memory is refused
+    // for the job, its run or its states, the line is answered `out of memory`.
     // It is stale only where another cartridge is loaded after what the seat had seen.
-    // Refused: work_outside_a_draft_reports_stale_states.
+    // Refused: work_outside_a_draft_reports_stale_states, work_outside_a_draft_fills_half,
+    // refused_work_is_reported_as_nothing_kept.
     // Refusals are replies, and change nothing; each comes where it is due, `out of memory` only where no refusal of
     // the edit and no `no frame` is due; it may come in place of `halted`.
     // Refused: full_history_is_reported_as_out_of_memory, place_is_reported_as_too_long*,

@@ -1,7 +1,6 @@
 -- A desk's seats from its opening to its end.
 use Rattle.std.proofs.Common.{◌≡◌, ℕ, zero, suc, ◌+◌, ◌<◌, ◌≤◌, ◌==◌, Bool, true, false, cond, List, [], ◌∷◌, ◌++◌, length, take, map, set, get_or, Option, Some, Result, Ok, Err, ◌⊎◌, inl, inr, refl, sym, ap, subst, ◌∙◌, arith}
-use Rattle.std.specs.Prelude.{All, count_by, slice_get, OnOk, IfErr, MatchResult, Vec}
-use Rattle.std.specs.Io.KnownBytes.{Appends}
+use Rattle.std.specs.Prelude.{All, count_by, slice_get, Vec}
 use Rattle.std.proofs.lemmas.Bool.{cases_lt}
 use Rattle.std.proofs.lemmas.Bool.Decides.{nat_tests}
 use Rattle.std.proofs.lemmas.List.{append-nil, get_or-set_same, get_or-set_other, take-append-le, length-append, length-map}
@@ -9,7 +8,6 @@ use Rattle.std.proofs.lemmas.Option.{same_Some, slice_get-get_or, slice_get_with
 use mathlib.Core.List.{IsPrefix}
 use Rattle.logbook.specs.Pages.{Book}
 use Rattle.tas_movie.specs.Content.{MovieContent}
-use Rattle.tas_movie.specs.Text.{text2}
 use Rattle.tas_published.specs.declared.entry.Entry.{Entry}
 use Rattle.tas_published.specs.History.{movie_of, entries_of, IsLegal}
 use Rattle.tas_published.specs.Strokes.{edits_in}
@@ -18,12 +16,11 @@ use Rattle.tas_desk.specs.Seats.{SeatContent, seat_of, HasSeen, KeepsZone, IsWho
 use Rattle.tas_desk.specs.Zones.{ZoneContent, blank_zone}
 use Rattle.tas_desk.specs.Closing.{made_by}
 use Rattle.tas_desk.proofs.SeatLemmas.{count_by-cons, entries_of-prefix, had_by, had_by-le, looked_twice, none_above}
-use Rattle.tas_engines.specs.Output.{StopsWriting}
 use Rattle.tas_engines.specs.declared.fault.RunFault.{RunFault}
 use Rattle.tas_engines.specs.declared.fault.RunFault.TheVariants.{Write, Size, Text, NoFrame, Range, Halted, HaltedFrame, Script, Place, Long, Names as NoNames, NoPlace, NoEntry, Foreign, Memory}
 use Rattle.tas_engines.specs.declared.fault.SeatFault.{SeatFault}
 use Rattle.tas_seat.specs.Lines.{DoorFacts, WasHeld}
-use Rattle.tas_tool.specs.Desks.{edits_before, IsBlankZone, IsSeatOf, IsHistoryOf, IsDeskHistory, IsUnwritten}
+use Rattle.tas_tool.specs.Desks.{edits_before, IsBlankZone, IsSeatOf, IsHistoryOf, IsDeskHistory}
 use Rattle.tas_tool.specs.Inside.TwoEdits.{HoldsMovie, IsMakingFault}
 use Rattle.tas_tool.specs.Inside.Holding.{AreNumbered, HaveMadeNone, HaveBlankZones, AreFresh, HaveMovie, IsUnmade, IsHeldIn, AreHeldIn, HoldsAll, HasRoom}
 use Rattle.tas_seat.proofs.HeldLemmas.{held_seen, held_in_history}
@@ -524,10 +521,3 @@ pub unmade_closed : {A : Type 0} (seats back : List (SeatContent A)) (log : List
     → (fault ≡ Memory) ⊎ (fault ≡ NoPlace)
 unmade_closed {A} seats back log fault is why none settled count =
     unmade_fault seats log fault why none (subst (λ (l : List (SeatContent A)). All (IsSettled log) l) is settled) (count ∙ ap (λ (l : List (SeatContent A)). made_by l) is)
-
--- ---- the movie's text
-
-pub written : (movie : MovieContent) (old new : Option (List ℕ)) (bytes : List ℕ) (r : Result (Unit {0}) RunFault) → bytes ≡ text2 movie → OnOk r (Appends old new bytes) → IfErr r (λ fault. StopsWriting old new bytes fault)
-    → MatchResult r (λ _. Appends old new (text2 movie)) (λ fault. IsUnwritten movie old new fault)
-written movie old new bytes (Ok u) is out stops = subst (λ (l : List ℕ). Appends old new l) is out
-written movie old new bytes (Err fault) is out stops = inr (subst (λ (l : List ℕ). StopsWriting old new l fault) is stops)

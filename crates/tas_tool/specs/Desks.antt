@@ -76,14 +76,10 @@ first_fault number [] = Ok tt
 first_fault number (Ok _ ∷ ends) = first_fault (number + 1) ends
 first_fault number (Err fault ∷ ends) = Err (Seat number fault)
 
--- why the movie isn't written whole: memory was refused for its text, and nothing is written; or a write failed
-abbrev pub IsUnwritten : MovieContent → (old new : Option (List ℕ)) → RunFault → Type 0
-IsUnwritten movie old new fault = ((fault ≡ Memory) × Keeps old new) ⊎ StopsWriting old new (text2 movie) fault
-
--- how a desk ends once all conversations have: the movie is written, and the end is the first fault of the seats; or it isn't written whole
+-- how a desk ends once all conversations have: the movie is written, and the end is the first fault of the seats; or a write of it failed. No memory is taken for its text
 abbrev pub DeskEnds : MovieContent → List (Result (Unit {0}) SeatFault) → (old new : Option (List ℕ)) → Result (Unit {0}) ToolFault → Type 0
 DeskEnds movie ends old new result =
-    (Appends old new (text2 movie) × (result ≡ first_fault 0 ends)) ⊎ ((fault : RunFault) × (result ≡ Err (Run fault)) × IsUnwritten movie old new fault)
+    (Appends old new (text2 movie) × (result ≡ first_fault 0 ends)) ⊎ ((fault : RunFault) × (result ≡ Err (Run fault)) × StopsWriting old new (text2 movie) fault)
 
 -- nothing was done: no door was opened, and nothing is written
 abbrev pub HasNotBegun : {D : Type 0} → (doors doors' : List D) → (old new : Option (List ℕ)) → Type 0

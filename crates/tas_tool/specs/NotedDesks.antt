@@ -15,6 +15,7 @@ use Rattle.tas_engines.specs.declared.fault.SeatFault.TheVariants.{Foreign}
 use Rattle.tas_engines.specs.declared.fault.ToolFault.TheVariants.{Read, Run, Seat}
 use Rattle.tas_engines.specs.Input.{IsReadWhole, StopsReadingTwo}
 use Rattle.tas_engines.specs.Movies.{IsMovieOf, IsMovieFault}
+use Rattle.tas_engines.specs.Output.{StopsWriting}
 use Rattle.tas_seat.specs.Lines.{DoorFacts}
 use Rattle.tas_seat.specs.Histories.{IsInHistory}
 use Rattle.tas_journal.specs.Text.{head_text}
@@ -25,7 +26,7 @@ use Rattle.tas_journaling.specs.declared.callers.CallFault.{CallFault}
 use Rattle.tas_journaling.specs.declared.callers.CallFault.TheVariants as call
 use Rattle.tas_tool.specs.declared.noted_desk_runs.DeskFault.{DeskFault}
 use Rattle.tas_tool.specs.declared.noted_desk_runs.DeskFault.TheVariants as failed
-use Rattle.tas_tool.specs.Desks.{edits_before, IsBlankZone, IsHistoryOf, HasNotBegun, IsUnwritten}
+use Rattle.tas_tool.specs.Desks.{edits_before, IsBlankZone, IsHistoryOf, HasNotBegun}
 
 -- ---- one history, and its journal
 
@@ -73,10 +74,10 @@ first_call_fault number (Ok _ ∷ ends) = first_call_fault (number + 1) ends
 first_call_fault number (Err (call.Seat fault) ∷ ends) = Err (failed.Tool (Seat number fault))
 first_call_fault number (Err (call.Journal fault) ∷ ends) = Err (failed.Seat number fault)
 
--- how a desk ends once all conversations have: the movie is written, and the end is the first fault of the seats; or it isn't written whole
+-- how a desk ends once all conversations have: the movie is written, and the end is the first fault of the seats; or a write of it failed
 abbrev pub NotedDeskEnds : MovieContent → List (Result (Unit {0}) CallFault) → (old new : Option (List ℕ)) → Result (Unit {0}) DeskFault → Type 0
 NotedDeskEnds movie ends old new result =
-    (Appends old new (text2 movie) × (result ≡ first_call_fault 0 ends)) ⊎ ((fault : RunFault) × (result ≡ Err (failed.Tool (Run fault))) × IsUnwritten movie old new fault)
+    (Appends old new (text2 movie) × (result ≡ first_call_fault 0 ends)) ⊎ ((fault : RunFault) × (result ≡ Err (failed.Tool (Run fault))) × StopsWriting old new (text2 movie) fault)
 
 -- why no conversation began: memory or a place was refused for the desk, and the journal's file is as it was, or memory was once it had its head; or its head isn't
 -- written whole

@@ -11,7 +11,8 @@ ghost use Rattle.tas_movie.specs.Text.{text2};
 ghost use Rattle.tas_published.specs.History.{movie_of};
 ghost use Rattle.tas_desk.specs.Seats.{most_seats, name_of};
 ghost use Rattle.tas_engines.specs.declared.fault.RunFault.TheVariants.{Memory, NoPlace};
-ghost use Rattle.tas_tool.specs.Desks.{first_fault, IsDeskHistory, IsDeskOn, IsDeskRun, IsUnwritten};
+ghost use Rattle.tas_engines.specs.Output.{StopsWriting};
+ghost use Rattle.tas_tool.specs.Desks.{first_fault, IsDeskHistory, IsDeskOn, IsDeskRun};
 ghost use Rattle.tas_tool.specs.Inside.Holding.{AreFresh};
 
 use crate::holding::{Held, Room, hold_made, put_for_all};
@@ -22,8 +23,8 @@ use std::marker::Brand;
 use std::sync::Wait;
 use std::thread::Threads;
 use tas_desk::{Desk, Name, OpenError, Seat, Unopened};
-use tas_engines::{RunFault, SeatFault, ToolFault, write_all};
-use tas_movie::{Movie, print_text};
+use tas_engines::{RunFault, SeatFault, ToolFault};
+use tas_movie::{Movie, write_text};
 use tas_seat::Door;
 
 /// Gives an open desk its movie, holds a conversation at each door, and closes the desk.
@@ -91,18 +92,17 @@ fn hold_desk<
     }
 }
 
-/// Writes the text of a movie.
-pub(crate) fn write_movie<A: Allocator + Copy, W: Write>(
-    alloc: A,
+/// Writes the text of a movie, with no memory for it.
+pub(crate) fn write_movie<A: Allocator, W: Write>(
     movie: &Movie<A>,
     output: &mut W,
 ) -> Result<(), RunFault>
     ensures { MatchResult result
         (λ _. Appends (W.contents output.old) (W.contents output.new) (text2 movie.now))
-        (IsUnwritten movie.now (W.contents output.old) (W.contents output.new)) }
+        (StopsWriting (W.contents output.old) (W.contents output.new) (text2 movie.now)) }
 {
-    let text = print_text(alloc, movie)?;
-    write_all(output, text.as_slice())
+    write_text(movie, output)?;
+    Ok(())
 }
 
 /// The fault of the first seat whose conversation ended with one.
@@ -137,7 +137,7 @@ fn desk_on<
         return Err(ToolFault::Run(RunFault::Memory));
     };
     let held = hold_desk::<Brand, A, T, D>(rt, alloc, unopened, movie, doors)?;
-    write_movie(alloc, &held.closed.movie, output)?;
+    write_movie(&held.closed.movie, output)?;
     first_fault(held.ends.as_slice())
 }
 
@@ -148,7 +148,7 @@ fn desk_on<
 /// The doors come back, in their order.
 ///
 /// Faults, in order: those of [`read_two`](tas_engines::read_two), then those of [`movie_of`](tas_engines::movie_of); `Memory` and `NoPlace` for the desk; each of these before a door
-/// is opened. Then, with nothing undone, `Memory` for the text and `Write` for its write; and, with the movie written, `Seat`: the fault
+/// is opened. Then, with nothing undone, `Write` for the text, for which no memory is taken; and, with the movie written, `Seat`: the fault
 /// of the least seat whose conversation ended with one. `Foreign` never comes.
 pub fn desk_run<
     A: Allocator + Copy + Send + Sync,
@@ -178,10 +178,12 @@ pub fn desk_run<
     // Refused: seats_meet_before_the_movie_is_made, desk_begins_without_the_inputs,
     // first_seat_looks_before_its_conversation.
     // Faults come in this order: of reading, of the cartridge and the movie; out of memory or no place for the desk,
-    // each of these with no door opened and nothing written; then, with nothing undone, out of memory for the text and
-    // a failed write, whose fault reports how many bytes went out; and with the movie written whole the fault of the
-    // least seat whose conversation ended with one.
-    // Refused: fault_of_the_last_seat_is_named, faults_of_seats_are_dropped, seats_end_is_lost.
+    // each of these with no door opened and nothing written; then, with nothing undone, a failed write of the text,
+    // whose fault reports how many bytes went out; and with the movie written whole the fault of the least seat whose
+    // conversation ended with one. Once a conversation has begun, no fault of memory keeps the movie from being
+    // written: none is taken for its text.
+    // Refused: fault_of_the_last_seat_is_named, faults_of_seats_are_dropped, seats_end_is_lost,
+    // text_of_a_desk_is_out_of_memory.
     ensures { IsDeskRun A D.facts doors.old.items doors.new.items (C.remaining cart.old)
         (C.remaining cart.new) (M.remaining movie.old) (M.remaining movie.new)
         (W.contents output.old) (W.contents output.new) result }

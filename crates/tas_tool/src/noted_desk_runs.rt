@@ -224,8 +224,7 @@ fn first_call_fault(ends: &[Result<(), CallFault>]) -> Result<(), DeskFault>
 }
 
 /// Writes the movie that a desk leaves. The end is that, or the first fault of its seats.
-fn end_noted<A: Allocator + Copy, W: Write>(
-    alloc: A,
+fn end_noted<A: Allocator, W: Write>(
     movie: &Movie<A>,
     ends: &[Result<(), CallFault>],
     output: &mut W,
@@ -234,7 +233,7 @@ fn end_noted<A: Allocator + Copy, W: Write>(
     ensures { NotedDeskEnds movie.now ends.now (W.contents output.old) (W.contents output.new)
         result }
 {
-    if let Err(fault) = write_movie(alloc, movie, output) {
+    if let Err(fault) = write_movie(movie, output) {
         return Err(run_fault(fault));
     }
     first_call_fault(ends)
@@ -269,7 +268,7 @@ fn noted_desk_on<
         Ok(held) => {
             let NotedHeld { ends, closed, file } = held;
             NotedDesk {
-                end: end_noted(alloc, &closed.movie, ends.as_slice(), output),
+                end: end_noted(&closed.movie, ends.as_slice(), output),
                 has_begun: true,
                 file,
             }
@@ -284,8 +283,8 @@ fn noted_desk_on<
 /// written. The journal takes a seat of the desk, so there is one pair less than
 /// [`MAX_SEATS`](tas_desk::MAX_SEATS), and its receipts take memory of `global`. The file comes back.
 ///
-/// Faults, in order: those of `desk_run` up to the desk; `Journal`, where the head isn't written whole; each of these before a door is opened. Then those of
-/// the movie's text and its write; and, with the movie written, the fault of the least seat whose conversation ended with one: `Seat` where that is the
+/// Faults, in order: those of `desk_run` up to the desk; `Journal`, where the head isn't written whole; each of these before a door is opened. Then that of
+/// the movie's write; and, with the movie written, the fault of the least seat whose conversation ended with one: `Seat` where that is the
 /// journal's. A journal that failed at a write takes nothing more: each conversation ends at its next request that may edit.
 pub fn noted_desk_run<
     A: Allocator + Copy + Send + Sync,

@@ -3,7 +3,6 @@ pub mod Chips
 pub mod Console
 pub mod Mirror
 pub mod Observing
-pub mod Sending
 pub mod Times
 pub mod TraceFrames
 pub mod Noting

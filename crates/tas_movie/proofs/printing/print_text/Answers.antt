@@ -1,9 +1,6 @@
-use Rattle.std.proofs.Common.{arith}
-use Rattle.std.proofs.lemmas.Grind.{common_steps}
+use Rattle.std.proofs.Common.{◌++◌, ◌∙◌, ap, List, ℕ}
+use Rattle.tas_movie.specs.Text.{text2}
 use Rattle.tas_movie.proofs.printing.print_text.Goals as goal
 
-pub push_runs-requires : goal.push_runs-requires
-push_runs-requires g c = rw c.inputs.ensures.inputs c.inputs.ensures.bound
-
-pub returns : goal.returns
-returns g c = grind (arith, common_steps)
+pub returns-in-Ok : goal.returns-in-Ok
+returns-in-Ok g c = c.in-Ok.ensures.all ∙ ap (λ (l : List ℕ). l ++ text2 c.args.movie.now) c.in_ok-out.ensures.items

@@ -1,13 +1,30 @@
-use Rattle.std.proofs.Common.{◌∙◌, ap}
-use Rattle.tas_movie.proofs.RunTextLemmas.{printed_once, printed_often}
-use Rattle.tas_movie.proofs.printing.push_run.Goals.{then-run-ne1+in_ok-extend_from_slice-2+in_ok-extend_from_slice-3, else-run-ne1}
+use Rattle.std.proofs.Common.{ap, List, ℕ, length, arith}
+use Rattle.tas_movie.specs.Text.{count_text}
+use Rattle.byte_text.proofs.Sendings.{pushed_length}
+use Rattle.tas_movie.proofs.PrintLemmas.{run_line_length, pushed_run}
 use Rattle.tas_movie.proofs.printing.push_run.Goals as goal
 
-pub returns : goal.returns
-returns g c =
-    let framed = c.in_ok-extend_from_slice.ensures.items in
-    elim c.if-run-ne1.branch [
-      | then-run-ne1+in_ok-extend_from_slice-2+in_ok-extend_from_slice-3 w ↦ printed_often c.args.out.now.items _ _ _ _ _ _ c.args.run w.if-run-ne1.true c.print_frame.ensures framed w.in_ok-extend_from_slice-2.ensures.items
-          (w.as_bytes.ensures.value ∙ w.format.ensures.text) (ap (λ v. v.items) w.out-is ∙ w.in_ok-extend_from_slice-3.ensures.items) c.in_ok-push.ensures.items
-      | else-run-ne1 w ↦ printed_once c.args.out.now.items _ _ _ c.args.run w.if-run-ne1.false c.print_frame.ensures (ap (λ v. v.items) w.out-is ∙ framed) c.in_ok-push.ensures.items
-    ]
+pub push-requires : goal.push-requires
+push-requires c =
+    let frame = ap (λ (l : List ℕ). length l) c.print_frame.ensures in
+    omega (arith, frame, c.requires.room)
+
+pub push_count-requires-clause-room : goal.push_count-requires-clause-room
+push_count-requires-clause-room c =
+    let frame = ap (λ (l : List ℕ). length l) c.print_frame.ensures in
+    let grown = pushed_length c.args.out.now c.push.new.self c.print_frame.result c.push.ensures in
+    omega (arith, frame, grown, c.requires.room)
+
+pub push-2-requires : goal.push-2-requires
+push-2-requires c =
+    let frame = ap (λ (l : List ℕ). length l) c.print_frame.ensures in
+    let grown = pushed_length c.args.out.now c.push.new.self c.print_frame.result c.push.ensures in
+    let counted = pushed_length c.push.new.self c.push_count.new.out (count_text c.args.run.count) c.push_count.ensures.waits in
+    omega (arith, frame, grown, counted, c.push_count.ensures.short, c.requires.room)
+
+pub returns-clause-waits : goal.returns-clause-waits
+returns-clause-waits c =
+    pushed_run c.args.out.now c.push.new.self c.push_count.new.out c.push-2.new.self c.print_frame.result c.args.run c.print_frame.ensures c.push.ensures c.push_count.ensures.waits c.push-2.ensures
+
+pub returns-clause-short : goal.returns-clause-short
+returns-clause-short c = run_line_length c.args.run c.requires.few

@@ -13,4 +13,4 @@ returns-in_default-share g c =
 pub returns : goal.returns
 returns g c =
     rw c.worked_reply.ensures
-    (work_answered g.row.A.Denot c.args.seat.now c.work.new.seat c.share.new.seat c.args.frame c.in-Ok.worked _ c.work.ensures.seat c.share.ensures.seat c.in-Ok.ensures.reply.0 c.in-Ok.ensures.reply.1 c.in-Ok.ensures.current c.in-Ok-share.ensures.zone)
+    (work_answered g.row.A.Denot c.args.seat.now c.work.new.seat c.share.new.seat c.args.frame c.in-Ok.worked _ c.work.ensures.seat c.share.ensures.seat c.in-Ok.ensures.reply.0 c.in-Ok.ensures.reply.1 c.in-Ok.ensures.jobs c.in-Ok.ensures.current c.in-Ok-share.ensures.zone)

@@ -1,0 +1,25 @@
+use Rattle.std.proofs.Common.{◌++◌, ◌∙◌, ap, List, ℕ, length, arith}
+use Rattle.std.specs.Prelude.{codes}
+use Rattle.byte_text.specs.Sending.{buffered}
+use Rattle.byte_text.proofs.Sendings.{pushed_both, pushed_length}
+use Rattle.tas_movie.proofs.PrintLemmas.{digest_length}
+use Rattle.tas_movie.proofs.printing.push_head.Goals as goal
+
+pub push-2-requires : goal.push-2-requires
+push-2-requires g c =
+    let grown = pushed_length c.args.out.now c.push.new.self (codes "a26movie 2\n") c.push.ensures in
+    let name = ap (λ (l : List ℕ). length l) c.print_digest.ensures ∙ digest_length c.args.cart.now in
+    omega (arith, grown, name, c.requires)
+
+pub push-3-requires : goal.push-3-requires
+push-3-requires g c =
+    let grown = pushed_length c.args.out.now c.push.new.self (codes "a26movie 2\n") c.push.ensures in
+    let named = pushed_length c.push.new.self c.push-2.new.self c.print_digest.result c.push-2.ensures in
+    let name = ap (λ (l : List ℕ). length l) c.print_digest.ensures ∙ digest_length c.args.cart.now in
+    omega (arith, grown, named, name, c.requires)
+
+pub returns : goal.returns
+returns g c =
+    pushed_both c.args.out.now c.push-2.new.self c.push-3.new.self (codes "a26movie 2\n" ++ c.print_digest.result) (codes "\n")
+    (pushed_both c.args.out.now c.push.new.self c.push-2.new.self (codes "a26movie 2\n") c.print_digest.result c.push.ensures c.push-2.ensures) c.push-3.ensures
+    ∙ ap (λ (l : List ℕ). buffered c.args.out.now.written (c.args.out.now.waiting ++ ((codes "a26movie 2\n" ++ l) ++ codes "\n"))) c.print_digest.ensures
