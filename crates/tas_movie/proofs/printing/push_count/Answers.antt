@@ -10,8 +10,8 @@ returns-then-count-eq1-clause-waits c = pushed_none c.args.out.now c.args.count 
 pub returns-then-count-eq1-clause-short : goal.returns-then-count-eq1-clause-short
 returns-then-count-eq1-clause-short c = count_length c.args.count c.requires.few
 
-pub push-2-requires : goal.push-2-requires
-push-2-requires c =
+pub push-requires-2 : goal.push-requires-2
+push-requires-2 c =
     let grown = pushed_length c.args.out.now c.push.new.self (codes " x") c.push.ensures in
     let text = ap (λ (l : List ℕ). length l) (c.as_bytes.ensures.value ∙ c.format.ensures.text) in
     omega (arith, grown, text, digits_length c.args.count c.requires.few, c.requires.room)

@@ -5,14 +5,14 @@ use Rattle.byte_text.proofs.Sendings.{pushed_both, pushed_length}
 use Rattle.tas_movie.proofs.PrintLemmas.{digest_length}
 use Rattle.tas_movie.proofs.printing.push_head.Goals as goal
 
-pub push-2-requires : goal.push-2-requires
-push-2-requires g c =
+pub push-requires-2 : goal.push-requires-2
+push-requires-2 g c =
     let grown = pushed_length c.args.out.now c.push.new.self (codes "a26movie 2\n") c.push.ensures in
     let name = ap (λ (l : List ℕ). length l) c.print_digest.ensures ∙ digest_length c.args.cart.now in
     omega (arith, grown, name, c.requires)
 
-pub push-3-requires : goal.push-3-requires
-push-3-requires g c =
+pub push-requires-3 : goal.push-requires-3
+push-requires-3 g c =
     let grown = pushed_length c.args.out.now c.push.new.self (codes "a26movie 2\n") c.push.ensures in
     let named = pushed_length c.push.new.self c.push-2.new.self c.print_digest.result c.push-2.ensures in
     let name = ap (λ (l : List ℕ). length l) c.print_digest.ensures ∙ digest_length c.args.cart.now in

@@ -15,8 +15,8 @@ push_count-requires-clause-room c =
     let grown = pushed_length c.args.out.now c.push.new.self c.print_frame.result c.push.ensures in
     omega (arith, frame, grown, c.requires.room)
 
-pub push-2-requires : goal.push-2-requires
-push-2-requires c =
+pub push-requires-2 : goal.push-requires-2
+push-requires-2 c =
     let frame = ap (λ (l : List ℕ). length l) c.print_frame.ensures in
     let grown = pushed_length c.args.out.now c.push.new.self c.print_frame.result c.push.ensures in
     let counted = pushed_length c.push.new.self c.push_count.new.out (count_text c.args.run.count) c.push_count.ensures.waits in
