@@ -27,7 +27,7 @@ abbrev one_if : Bool → ℕ
 one_if b = cond b 1 0
 
 one_less : (a b : Bool) → (a ≡ true → b ≡ true) → one_if a ≤ one_if b
-one_less true b less = let yes : one_if b ≡ 1 = ap one_if (less refl) in omega (arith, yes)
+one_less true b less = let full : one_if b ≡ 1 = ap one_if (less refl) in omega (arith, full)
 one_less false b less = omega arith
 
 -- all that passes one test passes another
@@ -130,7 +130,7 @@ shown_parts true false x o is there = absurd (false≢true (sym (ap is_some is) 
 shown_parts false b x o is there = absurd (false≢true there)
 
 shown_from : {A : Type 0} (a b : Bool) (x : A) (o : Option A) → o ≡ where_true b (Some x) → a ≡ true → b ≡ true → is_some (where_true a o) ≡ true
-shown_from a b x o is yes also = ap (λ (c : Bool). is_some (where_true c o)) yes ∙ ap is_some is ∙ ap (λ (c : Bool). is_some (where_true c (Some x))) also
+shown_from a b x o is one also = ap (λ (c : Bool). is_some (where_true c o)) one ∙ ap is_some is ∙ ap (λ (c : Bool). is_some (where_true c (Some x))) also
 
 -- ---- a job's places
 
