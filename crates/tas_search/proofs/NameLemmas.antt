@@ -103,11 +103,11 @@ means names (b ∷ bytes) at is sign operator there =
 
 -- a word that is no identifier is none of these
 no_word : (w said : List ℕ) → is_identifier w ≡ true → is_identifier said ≡ false → bytes_eq w said ≡ false
-no_word w said is no = go (bytes_eq w said) refl
+no_word w said is other = go (bytes_eq w said) refl
   where
     go : (b : Bool) → bytes_eq w said ≡ b → b ≡ false
     go false e = refl
-    go true e = let same : is_identifier said ≡ true = subst (λ (r : List ℕ). is_identifier r ≡ true) ((bytes_eq-Decides w said).0 e) is in let bad : false ≡ true = sym no ∙ same in absurd cc
+    go true e = let same : is_identifier said ≡ true = subst (λ (r : List ℕ). is_identifier r ≡ true) ((bytes_eq-Decides w said).0 e) is in let bad : false ≡ true = sym other ∙ same in absurd cc
 
 -- each word of a table is other than this one
 abbrev AreOther : List ℕ → List (List ℕ × Word) → Type 0
